@@ -1,0 +1,52 @@
+-- Every limit of document 01 and the size of its alphabet, each named once, with the words that set it.
+-- src/lib.rt has the same numbers for the code; a promise that uses both fails to prove where they differ.
+use Prim.Native.Nat.{ℕ}
+
+-- Word: "1 to 63 bytes". Exception line: "1 to 63 small letters".
+abbrev pub wordLimit : ℕ
+wordLimit = 63
+
+-- Ground 5: "break or level room under 64 bytes". Bytes 0 to 63 of the room are written.
+abbrev pub roomSize : ℕ
+roomSize = 64
+
+-- "Margins are numbers from 1 to 63".
+abbrev pub marginLimit : ℕ
+marginLimit = 63
+
+-- Symbols: "a to z are 1 to 26. The word's edge, written ".", is 27."
+abbrev pub edge : ℕ
+edge = 27
+
+-- How many symbols there are: 1 to this number.
+abbrev pub symbols : ℕ
+symbols = 27
+
+-- Pattern line: "1 to 16 symbols". Walk: "or 16 symbols have matched".
+abbrev pub patternLimit : ℕ
+patternLimit = 16
+
+-- "Pattern text at most 32,768 bytes, each exception text at most 8,192."
+abbrev pub patternText : ℕ
+patternText = 32768
+
+abbrev pub exceptionText : ℕ
+exceptionText = 8192
+
+-- "C is 1 to 8,192, E 0 to 2,048."
+abbrev pub cells : ℕ
+cells = 8192
+
+abbrev pub entries : ℕ
+entries = 2048
+
+-- Ground 10: "pack room under 59,398 bytes", the length of the longest table.
+abbrev pub packRoom : ℕ
+packRoom = 59398
+
+-- Ground 6: "list (1 customer, 2 house)".
+abbrev pub customerList : ℕ
+customerList = 1
+
+abbrev pub houseList : ℕ
+houseList = 2

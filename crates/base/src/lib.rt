@@ -1,0 +1,113 @@
+// What every other crate shares: the limits, the grounds of a refusal, and their numbers.
+ghost use mathlib.Core.Path.{_≡_};
+ghost use Rattle.base.specs.Grounds.{told};
+
+// The limits of document 01. specs/Limits.antt has each of them under the same name, with the sentence that sets it.
+pub const WORD_LIMIT: usize = 63;
+
+pub const ROOM: usize = 64;
+
+pub const MARGIN_LIMIT: usize = 63;
+
+pub const EDGE: u8 = 27;
+
+pub const SYMBOLS: usize = 27;
+
+pub const PATTERN_LIMIT: usize = 16;
+
+pub const PATTERN_TEXT: usize = 32768;
+
+pub const EXCEPTION_TEXT: usize = 8192;
+
+pub const CELLS: usize = 8192;
+
+pub const ENTRIES: usize = 2048;
+
+pub const PACK_ROOM: usize = 59398;
+
+// The numbers of the two exception lists.
+pub const CUSTOMER: usize = 1;
+
+pub const HOUSE: usize = 2;
+
+// Why a call refuses, with the list and the offset where document 01 tells a place.
+pub enum Ground {
+    Margin,
+    WordEmpty,
+    NotLetter(usize),
+    WordLong,
+    RoomShort,
+    BadException { list: usize, offset: usize },
+    BadPattern(usize),
+    TextLong,
+    TableForm,
+    PackRoomShort,
+    NoFit,
+    NotRight,
+}
+
+// What a judgement says: nothing against it, or why not.
+pub enum Check {
+    Fine,
+    Refused(Ground),
+}
+
+// The number by which the customer knows a ground.
+pub fn number_of(ground: Ground) -> usize
+    ensures { λ r. ⌜ r ≡ told ground .number ⌝ }
+{
+    match ground {
+        Ground::Margin => 1,
+        Ground::WordEmpty => 2,
+        Ground::NotLetter(_) => 3,
+        Ground::WordLong => 4,
+        Ground::RoomShort => 5,
+        Ground::BadException { list: _, offset: _ } => 6,
+        Ground::BadPattern(_) => 7,
+        Ground::TextLong => 8,
+        Ground::TableForm => 9,
+        Ground::PackRoomShort => 10,
+        Ground::NoFit => 11,
+        Ground::NotRight => 12,
+    }
+}
+
+// The list that a ground names, 0 where it names none.
+pub fn list_of(ground: Ground) -> usize
+    ensures { λ r. ⌜ r ≡ told ground .list ⌝ }
+{
+    match ground {
+        Ground::Margin => 0,
+        Ground::WordEmpty => 0,
+        Ground::NotLetter(_) => 0,
+        Ground::WordLong => 0,
+        Ground::RoomShort => 0,
+        Ground::BadException { list, offset: _ } => list,
+        Ground::BadPattern(_) => 0,
+        Ground::TextLong => 0,
+        Ground::TableForm => 0,
+        Ground::PackRoomShort => 0,
+        Ground::NoFit => 0,
+        Ground::NotRight => 0,
+    }
+}
+
+// The place that a ground tells, 0 where it tells none.
+pub fn place_of(ground: Ground) -> usize
+    ensures { λ r. ⌜ r ≡ told ground .place ⌝ }
+{
+    match ground {
+        Ground::Margin => 0,
+        Ground::WordEmpty => 0,
+        Ground::NotLetter(at) => at,
+        Ground::WordLong => 0,
+        Ground::RoomShort => 0,
+        Ground::BadException { list: _, offset } => offset,
+        Ground::BadPattern(offset) => offset,
+        Ground::TextLong => 0,
+        Ground::TableForm => 0,
+        Ground::PackRoomShort => 0,
+        Ground::NoFit => 0,
+        Ground::NotRight => 0,
+    }
+}

@@ -1,0 +1,88 @@
+// Letters, symbols and the judgement of a word.
+use base::Check;
+use base::Ground;
+ghost use mathlib.Core.Path.{_≡_};
+ghost use Rattle.words.specs.Symbols.{small, capital, letter, lower, digit, symbolOf};
+ghost use Rattle.words.specs.Words.{judgeWord};
+
+pub fn is_small(b: u8) -> bool
+    ensures { λ r. ⌜ r ≡ small b ⌝ }
+{
+    if b < 97 {
+        return false;
+    }
+    b <= 122
+}
+
+pub fn is_capital(b: u8) -> bool
+    ensures { λ r. ⌜ r ≡ capital b ⌝ }
+{
+    if b < 65 {
+        return false;
+    }
+    b <= 90
+}
+
+pub fn is_letter(b: u8) -> bool
+    ensures { λ r. ⌜ r ≡ letter b ⌝ }
+{
+    if is_small(b) {
+        return true;
+    }
+    is_capital(b)
+}
+
+// A digit of a pattern, 1 to 9.
+pub fn is_digit(b: u8) -> bool
+    ensures { λ r. ⌜ r ≡ digit b ⌝ }
+{
+    if b < 49 {
+        return false;
+    }
+    b <= 57
+}
+
+pub fn lower_of(b: u8) -> u8
+    ensures { λ r. ⌜ r ≡ lower b ⌝ }
+{
+    if b < 65 {
+        return b;
+    }
+    if 90 < b {
+        return b;
+    }
+    b + 32
+}
+
+// The symbol that a byte of a text stands for, 0 for none.
+pub fn symbol_of(b: u8) -> u8
+    ensures { λ r. ⌜ r ≡ symbolOf b ⌝ }
+{
+    if is_small(b) {
+        return b - 96;
+    }
+    if b == 46 {
+        return base::EDGE;
+    }
+    0
+}
+
+// Grounds 2, 4 and 3 of a word of at most limit bytes.
+pub fn judge_word(word: &[u8], limit: usize) -> Check
+    ensures { λ r. ⌜ r ≡ judgeWord limit (now (word .entry)) ⌝ }
+{
+    if word.len() == 0 {
+        return Check::Refused(Ground::WordEmpty);
+    }
+    if limit < word.len() {
+        return Check::Refused(Ground::WordLong);
+    }
+    let mut i = 0;
+    while i < word.len() {
+        if !is_letter(word[i]) {
+            return Check::Refused(Ground::NotLetter(i));
+        }
+        i += 1;
+    }
+    Check::Fine
+}
