@@ -7,8 +7,8 @@ use native.Mathlib.Omega.{arith}
 use native.Mathlib.Nat.{add-zero}
 use borrow.Author.Tests.{lt-leb, le-leb, lt-ltb, le-ltb, eq-eqb, ne-eqb, not-true, not-false}
 use lib.Dec.{leb, ltb, eqb}
-use lib.ListN.{length, getD, take, drop, drop-of-length-le}
-use lib.Seq.{drop-drop}
+use lib.ListN.{length, getD, take, drop, length-drop, drop-of-length-le}
+use lib.Seq.{drop-drop, length-take-le}
 use Rattle.base.specs.Limits.{wordLimit, patternLimit}
 use Rattle.base.proofs.Lists.{cons-at}
 use Rattle.words.specs.Symbols.{feed, hyphen, dot, small, digit, symbolOf, symbolsOf}
@@ -193,3 +193,57 @@ module _ (a : List ℕ) (i : ℕ) (b : List ℕ) (j : ℕ) {y : ℕ} (k : j < le
     pub order-equal : (x ≡ 0 → ⊥) → y ≤ x → x ≤ y → linesBefore a i b j ≡ linesBefore a (i + 1) b (j + 1)
     unfolding linesBefore before symbolsOf
     order-equal d l m = rw (cons-at a i h, cons-at b j k, ← p, ← q, ne-eqb y 0 e, ne-eqb x 0 d, le-ltb x y l, eq-eqb x y (omega arith))
+
+-- cutting a text at the end of its first line
+pub length-le : (l : List ℕ) → lineLength l ≤ length l
+unfolding lineLength
+length-le [] = omega arith
+length-le (b ∷ t) = go (eqb b feed) (length-le t)
+  where
+    go : (z : Bool) → lineLength t ≤ length t → cond z 1 (suc (lineLength t)) ≤ suc (length t)
+    go true h = omega arith
+    go false h = omega arith
+
+pub length-pos : (l : List ℕ) → 0 < length l → 0 < lineLength l
+unfolding lineLength
+length-pos [] h = h
+length-pos (b ∷ t) h = go (eqb b feed)
+  where
+    go : (z : Bool) → 0 < cond z 1 (suc (lineLength t))
+    go true = omega arith
+    go false = omega arith
+
+pub cut-first : (l : List ℕ) → 0 < length l → cut l ≡ take (lineLength l) l ∷ cut (drop (lineLength l) l)
+unfolding cut lineLength glue
+cut-first [] h = absurd (omega arith)
+cut-first (b ∷ []) h = go (eqb b feed)
+  where
+    go : (z : Bool) → cond z ((b ∷ []) ∷ []) ((b ∷ []) ∷ []) ≡ take (cond z 1 1) (b ∷ []) ∷ cut (drop (cond z 1 1) (b ∷ []))
+    go true = refl
+    go false = refl
+cut-first (b ∷ c ∷ u) h = go (eqb b feed) (cut-first (c ∷ u) (omega arith))
+  where
+    go : (z : Bool) → cut (c ∷ u) ≡ take (lineLength (c ∷ u)) (c ∷ u) ∷ cut (drop (lineLength (c ∷ u)) (c ∷ u))
+        → cond z ((b ∷ []) ∷ cut (c ∷ u)) (glue b (cut (c ∷ u)))
+          ≡ take (cond z 1 (suc (lineLength (c ∷ u)))) (b ∷ c ∷ u) ∷ cut (drop (cond z 1 (suc (lineLength (c ∷ u)))) (b ∷ c ∷ u))
+    go true e = refl
+    go false e = ap (glue b) e
+
+-- the line that the code lends from a place to its end
+module _ (w : List ℕ) (at e : ℕ) (h : at < length w) (q : e ≡ at + lineLength (drop at w)) where
+  left-over : 0 < length (drop at w)
+  left-over = rw (length-drop at w) (omega arith)
+
+  pub line-starts : at < e
+  line-starts = omega (arith, length-pos (drop at w) left-over)
+
+  pub line-ends : e ≤ length w
+  line-ends = omega (arith, length-le (drop at w), length-drop at w)
+
+  pub line-size : length (take (e - at) (drop at w)) ≡ e - at
+  line-size = length-take-le (e - at) (drop at w) (omega (arith, length-le (drop at w)))
+
+  pub cut-line : cut (drop at w) ≡ take (e - at) (drop at w) ∷ cut (drop e w)
+  cut-line =
+      let m : e - at ≡ lineLength (drop at w) = omega arith in
+      rw (m, q) (cut-first (drop at w) left-over ∙ ap (λ (l : List ℕ). take (lineLength (drop at w)) (drop at w) ∷ cut l) (drop-drop (lineLength (drop at w)) at w))

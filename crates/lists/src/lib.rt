@@ -1,0 +1,117 @@
+// Whole text lists: the first bad line, and the grounds 8, 7 and 6.
+use base::Check;
+use base::Ground;
+ghost use mathlib.Core.Path.{_≡_};
+ghost use Rattle.lists.specs.Lists.{goodLine, judgeLines, judgeSize, badPattern, badException, judgePatterns, judgeExceptions, judgeLists};
+
+// What the lines of a list are.
+pub enum Form {
+    Patterns,
+    Exceptions,
+}
+
+// What there is to say of a list's lines.
+pub enum Lines {
+    Good,
+    BadAt(usize),
+}
+
+pub fn is_good_line(form: Form, line: &[u8]) -> bool
+    ensures { λ r. ⌜ r ≡ goodLine form (now (line .entry)) ⌝ }
+{
+    match form {
+        Form::Patterns => lines::is_good_pattern(line),
+        Form::Exceptions => lines::is_good_exception(line),
+    }
+}
+
+// The first line that is bad by itself or does not ascend from the one above. Each byte is read a fixed number of times.
+pub fn judge_lines(form: Form, text: &[u8]) -> Lines
+    ensures { λ r. ⌜ r ≡ judgeLines form (now (text .entry)) ⌝ }
+{
+    let mut above = 0;
+    let mut at = 0;
+    while at < text.len() {
+        let end = lines::line_end(text, at);
+        if !is_good_line(form, &text[at..end]) {
+            return Lines::BadAt(at);
+        }
+        if !lines::ascends(&text[above..at], &text[at..end]) {
+            return Lines::BadAt(at);
+        }
+        above = at;
+        at = end;
+    }
+    Lines::Good
+}
+
+pub fn judge_size(limit: usize, text: &[u8]) -> Check
+    ensures { λ r. ⌜ r ≡ judgeSize limit (now (text .entry)) ⌝ }
+{
+    if limit < text.len() {
+        return Check::Refused(Ground::TextLong);
+    }
+    Check::Fine
+}
+
+fn bad_pattern(found: Lines) -> Check
+    ensures { λ r. ⌜ r ≡ badPattern found ⌝ }
+{
+    match found {
+        Lines::Good => Check::Fine,
+        Lines::BadAt(offset) => Check::Refused(Ground::BadPattern(offset)),
+    }
+}
+
+fn bad_exception(list: usize, found: Lines) -> Check
+    ensures { λ r. ⌜ r ≡ badException list found ⌝ }
+{
+    match found {
+        Lines::Good => Check::Fine,
+        Lines::BadAt(offset) => Check::Refused(Ground::BadException {
+            list: list,
+            offset: offset,
+        }),
+    }
+}
+
+// A pattern text: 8, then 7.
+pub fn judge_patterns(text: &[u8]) -> Check
+    ensures { λ r. ⌜ r ≡ judgePatterns (now (text .entry)) ⌝ }
+{
+    let size = judge_size(base::PATTERN_TEXT, text);
+    if let Check::Refused(g) = size {
+        return Check::Refused(g);
+    }
+    bad_pattern(judge_lines(Form::Patterns, text))
+}
+
+// An exception text of at most limit bytes: 8, then 6 with the list's number.
+pub fn judge_exceptions(list: usize, limit: usize, text: &[u8]) -> Check
+    ensures { λ r. ⌜ r ≡ judgeExceptions list limit (now (text .entry)) ⌝ }
+{
+    let size = judge_size(limit, text);
+    if let Check::Refused(g) = size {
+        return Check::Refused(g);
+    }
+    bad_exception(list, judge_lines(Form::Exceptions, text))
+}
+
+// Both exception texts: 8 for either, then 6 for the customer's, then 6 for the house's.
+pub fn judge_lists(customer: &[u8], house: &[u8]) -> Check
+    ensures { λ r. ⌜ r ≡ judgeLists (now (customer .entry)) (now (house .entry)) ⌝ }
+{
+    let size = judge_size(base::EXCEPTION_TEXT, customer);
+    if let Check::Refused(g) = size {
+        return Check::Refused(g);
+    }
+    let size2 = judge_size(base::EXCEPTION_TEXT, house);
+    if let Check::Refused(g) = size2 {
+        return Check::Refused(g);
+    }
+    let own = bad_exception(base::CUSTOMER, judge_lines(Form::Exceptions, customer));
+    if let Check::Refused(g) = own {
+        return Check::Refused(g);
+    }
+    bad_exception(base::HOUSE, judge_lines(Form::Exceptions, house))
+}
