@@ -11,7 +11,7 @@ use Rattle.base.specs.Limits.{edge}
 use Rattle.base.specs.declared.Check.{Check}
 use Rattle.base.specs.declared.Check.the-variants.{Fine, Refused}
 use Rattle.base.specs.declared.Ground.the-variants.{WordEmpty, WordLong, NotLetter}
-use Rattle.base.proofs.Lists.{cons-at}
+use Rattle.base.proofs.Lists.{cons-at, never}
 use Rattle.words.specs.Symbols.{small, capital, letter, lower, digit, symbolOf, symbolsOf, dot}
 use Rattle.words.specs.Words.{allLetters, judgeWord}
 
@@ -28,7 +28,14 @@ range-low lo hi b e = go (leb lo b) refl e
   where
     go : (t : Bool) → leb lo b ≡ t → (t && leb b hi) ≡ true → lo ≤ b
     go true p q = leb-true lo b p
-    go false p q = let z : _≡_ {A = Bool} false true = q in let w : _≡_ {A = ℕ} 0 1 = cc in omega arith
+    go false p q = never q
+
+pub range-high : (lo hi b : ℕ) → (leb lo b && leb b hi) ≡ true → b ≤ hi
+range-high lo hi b e = go (leb lo b) e
+  where
+    go : (t : Bool) → (t && leb b hi) ≡ true → b ≤ hi
+    go true q = leb-true b hi q
+    go false q = never q
 
 pub small-low : (b : ℕ) → small b ≡ true → 97 ≤ b
 unfolding small
@@ -93,14 +100,6 @@ unfolding allLetters
 letters-end w i h = rw (drop-of-length-le w h)
 
 -- which classes of bytes exclude each other
-small-high : (b : ℕ) → small b ≡ true → b ≤ 122
-unfolding small
-small-high b e = go (leb 97 b) refl e
-  where
-    go : (t : Bool) → leb 97 b ≡ t → (t && leb b 122) ≡ true → b ≤ 122
-    go true p q = leb-true b 122 q
-    go false p q = let z : _≡_ {A = Bool} false true = q in let w : _≡_ {A = ℕ} 0 1 = cc in omega arith
-
 pub small-not-digit : (b : ℕ) → small b ≡ true → digit b ≡ false
 unfolding digit
 small-not-digit b e = let h : 57 < b = omega (arith, small-low b e) in rw (lt-leb b 57 h, le-leb 49 b (omega arith))
