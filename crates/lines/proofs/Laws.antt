@@ -94,8 +94,16 @@ module _ (w : List ℕ) (i : ℕ) (h : i < length w) (o a ls ds : Bool) (n : ℕ
     unfolding patternRest patternForm anyOf isNil symbolsOf
     pattern-feed =
         let k : length w ≤ i + 1 = omega arith in
-        rw (cons-at w i h, symbols-skip (getD w i 0) (drop (i + 1) w) (other-symbol (getD w i 0) e z), drop-of-length-le w k, e, d, ne-eqb (getD w i 0) dot z
-          , eq-eqb (getD w i 0) feed f, add-zero n)
+        rw (
+          cons-at w i h,
+          symbols-skip (getD w i 0) (drop (i + 1) w) (other-symbol (getD w i 0) e z),
+          drop-of-length-le w k,
+          e,
+          d,
+          ne-eqb (getD w i 0) dot z,
+          eq-eqb (getD w i 0) feed f,
+          add-zero n,
+        )
 
     pub pattern-letterless : not ls ≡ true → patternRest o a ls ds n (drop i w) ≡ false
     pattern-letterless l = pattern-feed ∙ rw (not-true ls l)
@@ -225,7 +233,7 @@ cut-first (b ∷ c ∷ u) h = go (eqb b feed) (cut-first (c ∷ u) (omega arith)
   where
     go : (z : Bool) → cut (c ∷ u) ≡ take (lineLength (c ∷ u)) (c ∷ u) ∷ cut (drop (lineLength (c ∷ u)) (c ∷ u))
         → cond z ((b ∷ []) ∷ cut (c ∷ u)) (glue b (cut (c ∷ u)))
-          ≡ take (cond z 1 (suc (lineLength (c ∷ u)))) (b ∷ c ∷ u) ∷ cut (drop (cond z 1 (suc (lineLength (c ∷ u)))) (b ∷ c ∷ u))
+        ≡ take (cond z 1 (suc (lineLength (c ∷ u)))) (b ∷ c ∷ u) ∷ cut (drop (cond z 1 (suc (lineLength (c ∷ u)))) (b ∷ c ∷ u))
     go true e = refl
     go false e = ap (glue b) e
 

@@ -31,6 +31,7 @@ before-trans (x ∷ xs) (y ∷ ys) (z ∷ zs) p q =
   where
     less : x < z → (ltb x z || (eqb x z && before xs zs)) ≡ true
     less h = rw (lt-ltb x z h)
+
     go : (x < y) ⊎ ((x ≡ y) × (before xs ys ≡ true)) → (y < z) ⊎ ((y ≡ z) × (before ys zs ≡ true)) → (before xs ys ≡ true → before ys zs ≡ true → before xs zs ≡ true)
         → (ltb x z || (eqb x z && before xs zs)) ≡ true
     go (inl h) (inl k) t = less (omega arith)

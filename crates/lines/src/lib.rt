@@ -148,5 +148,5 @@ pub fn ascends(above: &[u8], line: &[u8]) -> bool
             }
         }
     }
-    false
+    false // no symbol is left of the line
 }

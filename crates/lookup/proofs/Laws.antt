@@ -57,6 +57,7 @@ same-end w i l j h k = rw (drop-of-length-le l k) (go (eqb i (length w)) refl)
   where
     more : i < length w → same (wordSymbols (drop i w)) [] ≡ false
     more m = rw (cons-at w i m)
+
     go : (z : Bool) → eqb i (length w) ≡ z → same (wordSymbols (drop i w)) [] ≡ eqb i (length w)
     go true e = let s : length w ≤ i = omega (arith, eqb-true i (length w) e) in rw (e, drop-of-length-le w s)
     go false e = more (omega (arith, eqb-false i (length w) e)) ∙ sym e

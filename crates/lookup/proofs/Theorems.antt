@@ -61,6 +61,7 @@ find-nth key at (l ∷ ls) (suc i) h e n = go (same key (symbolsOf l)) refl (fin
   where
     here : symbolsOf l ≡ key → ⊥
     here = n zero (omega arith)
+
     go : (z : Bool) → same key (symbolsOf l) ≡ z
         → findLine key (at + length l) ls ≡ At (at + length l + offsetOf ls i) (at + length l + offsetOf ls i + (length (getD ls i []) - 1))
         → cond z (At at (at + (length l - 1))) (findLine key (at + length l) ls) ≡ At (at + (length l + offsetOf ls i)) (at + (length l + offsetOf ls i) + (length (getD ls i []) - 1))
@@ -74,6 +75,7 @@ find-none key at (l ∷ ls) n = go (same key (symbolsOf l)) refl (find-none key 
   where
     here : symbolsOf l ≡ key → ⊥
     here = n zero (omega arith)
+
     go : (z : Bool) → same key (symbolsOf l) ≡ z → findLine key (at + length l) ls ≡ Nothing → cond z (At at (at + (length l - 1))) (findLine key (at + length l) ls) ≡ Nothing
     go true p next = absurd (here (sym (same-true key (symbolsOf l) p)))
     go false p next = next
@@ -131,7 +133,7 @@ part-listed word text l s e p q =
     let n : e - s ≡ length (getD (cut text) (l .at) []) - 1 = omega arith in
     let o : s ≡ offsetOf (cut text) (l .at) = omega arith in
     rw (n, o) (ap (λ (t : List ℕ). take (length (getD (cut text) (l .at) []) - 1) (drop (offsetOf (cut text) (l .at)) t)) (sym (join-cut text))
-      ∙ read-back (cut text) (l .at) (length (getD (cut text) (l .at) []) - 1) (l .within) (omega arith))
+    ∙ read-back (cut text) (l .at) (length (getD (cut text) (l .at) []) - 1) (l .within) (omega arith))
 
 -- what it says of the parts that judgements in order are fine
 pub first-fine : (a b : Check) → first a b ≡ Fine → (a ≡ Fine) × (b ≡ Fine)
