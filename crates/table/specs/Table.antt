@@ -1,0 +1,85 @@
+-- The packed table as document 01 lays it out on bytes.
+use Prim.Native.Nat.{ℕ, _+_, _*_, _-_}
+use mathlib.Core.Bool.{Bool, cond, not, _&&_}
+use mathlib.Core.List.{List}
+use lib.Dec.{leb, eqb}
+use lib.ListN.{length, getD, take, drop}
+use Rattle.base.specs.Limits.{cells, entries}
+use Rattle.base.specs.Grounds.{refuseIf}
+use Rattle.base.specs.declared.Check.{Check}
+use Rattle.base.specs.declared.Ground.the-variants.{TableForm}
+use Rattle.table.specs.declared.Look.{Look}
+use Rattle.table.specs.declared.Look.the-variants.{Hit, Miss}
+use Rattle.table.specs.declared.Entry.{Entry}
+use Rattle.table.specs.declared.Entry.the-variants.{Has, Stop}
+
+-- "Records are one byte of kind, then a body whose length the kind fixes": a head of kind 1 with 5 bytes of body, cells of
+-- kind 2 with 5, entries of kind 3 with 4. The sizes here include the byte of kind.
+abbrev pub headKind : ℕ
+headKind = 1
+
+abbrev pub cellKind : ℕ
+cellKind = 2
+
+abbrev pub entryKind : ℕ
+entryKind = 3
+
+abbrev pub edition : ℕ
+edition = 1
+
+abbrev pub headSize : ℕ
+headSize = 6
+
+abbrev pub cellSize : ℕ
+cellSize = 6
+
+abbrev pub entrySize : ℕ
+entrySize = 5
+
+-- "Numbers of two bytes have the high byte first."
+unfoldable pub numberAt : List ℕ → ℕ → ℕ
+numberAt bytes at = 256 * getD bytes at 0 + getD bytes (at + 1) 0
+
+-- "edition 1, cells C (2 bytes), entries E (2 bytes)"
+unfoldable pub cellCount : List ℕ → ℕ
+cellCount table = numberAt table 2
+
+unfoldable pub entryCount : List ℕ → ℕ
+entryCount table = numberAt table 4
+
+-- Ground 9 does not hold: a kind 1 record of edition 1, "C is 1 to 8,192, E 0 to 2,048. Length is 6 + 6C + 5E".
+unfoldable pub formed : List ℕ → Bool
+formed table =
+    leb headSize (length table)
+    && (eqb (getD table 0 0) headKind
+    && (eqb (getD table 1 0) edition
+    && (leb 1 (cellCount table)
+    && (leb (cellCount table) cells
+    && (leb (entryCount table) entries
+    && eqb (length table) (headSize + cellSize * cellCount table + entrySize * entryCount table))))))
+
+-- Ground 9: "table's length or kind 1 record wrong".
+unfoldable pub judgeTable : List ℕ → Check
+judgeTable table = refuseIf (not (formed table)) TableForm
+
+-- "One kind 1, then C of kind 2 (cells 0 to C - 1), then E of kind 3": the bytes of the cells and those of the entries.
+unfoldable pub cellsOf : List ℕ → List ℕ
+cellsOf table = take (cellSize * cellCount table) (drop headSize table)
+
+unfoldable pub entriesOf : List ℕ → List ℕ
+entriesOf table = drop (headSize + cellSize * cellCount table) table
+
+-- One look at a cell: "It matches if it exists, is of kind 2 and holds this very symbol."
+unfoldable pub look : List ℕ → ℕ → ℕ → Look
+look bytes n symbol =
+    cond (leb (cellSize * n + cellSize) (length bytes) && (eqb (getD bytes (cellSize * n) 0) cellKind && eqb (getD bytes (cellSize * n + 1) 0) symbol))
+    (Hit (numberAt bytes (cellSize * n + 2)) (numberAt bytes (cellSize * n + 4)))
+    Miss
+
+-- Entry k of a chain: "0 is none"; "a number over E or a kind other than 3 ends the chain with nothing from it". Entries are
+-- numbered from 1.
+unfoldable pub entryAt : List ℕ → ℕ → Entry
+entryAt bytes k =
+    cond (leb 1 k && (leb (entrySize * k) (length bytes) && eqb (getD bytes (entrySize * k - 5) 0) entryKind))
+    (Has (getD bytes (entrySize * k - 4) 0) (getD bytes (entrySize * k - 3) 0) (numberAt bytes (entrySize * k - 2)))
+    Stop
