@@ -10,6 +10,14 @@ wordLimit = 63
 abbrev pub roomSize : ℕ
 roomSize = 64
 
+-- Levels: "put an edge before and after the word": the longest row.
+abbrev pub rowLimit : ℕ
+rowLimit = 65
+
+-- "a level outside 1 to 9"
+abbrev pub levelLimit : ℕ
+levelLimit = 9
+
 -- "Margins are numbers from 1 to 63".
 abbrev pub marginLimit : ℕ
 marginLimit = 63

@@ -7,6 +7,10 @@ pub const WORD_LIMIT: usize = 63;
 
 pub const ROOM: usize = 64;
 
+pub const ROW: usize = 65;
+
+pub const LEVEL_LIMIT: u8 = 9;
+
 pub const MARGIN_LIMIT: usize = 63;
 
 pub const EDGE: u8 = 27;

@@ -54,14 +54,32 @@ module _ (t : List ℕ) (h : 6 ≤ length t) where
         pub wrong-length : e ≤ entries → (length t ≡ 6 + 6 * c + 5 * e → ⊥) → Refused TableForm ≡ judgeTable t
         unfolding judgeTable formed cellCount entryCount
         wrong-length k d =
-            rw (le-leb 6 (length t) h, eq-eqb (getD t 0 0) 1 a, eq-eqb (getD t 1 0) 1 b, ← p, le-leb 1 c l, le-leb c cells m, ← q, le-leb e entries k
-              , ne-eqb (length t) (6 + 6 * c + 5 * e) d)
+            rw (
+              le-leb 6 (length t) h,
+              eq-eqb (getD t 0 0) 1 a,
+              eq-eqb (getD t 1 0) 1 b,
+              ← p,
+              le-leb 1 c l,
+              le-leb c cells m,
+              ← q,
+              le-leb e entries k,
+              ne-eqb (length t) (6 + 6 * c + 5 * e) d,
+            )
 
         pub fine-table : e ≤ entries → length t ≡ 6 + 6 * c + 5 * e → Fine ≡ judgeTable t
         unfolding judgeTable formed cellCount entryCount
         fine-table k d =
-            rw (le-leb 6 (length t) h, eq-eqb (getD t 0 0) 1 a, eq-eqb (getD t 1 0) 1 b, ← p, le-leb 1 c l, le-leb c cells m, ← q, le-leb e entries k
-              , eq-eqb (length t) (6 + 6 * c + 5 * e) d)
+            rw (
+              le-leb 6 (length t) h,
+              eq-eqb (getD t 0 0) 1 a,
+              eq-eqb (getD t 1 0) 1 b,
+              ← p,
+              le-leb 1 c l,
+              le-leb c cells m,
+              ← q,
+              le-leb e entries k,
+              eq-eqb (length t) (6 + 6 * c + 5 * e) d,
+            )
 
 -- the parts of a table
 pub cells-none : (t : List ℕ) → length t < 6 → [] ≡ cellsOf t

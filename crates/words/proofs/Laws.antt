@@ -1,19 +1,19 @@
 -- Laws about letters, symbols and words. Function proofs and other crates cite these and not the definitions.
-use Prim.Native.Nat.{ℕ, _+_, _-_, _≤_, _<_}
+use Prim.Native.Nat.{ℕ, suc, _+_, _-_, _≤_, _<_}
 use mathlib.Core.Bool.{Bool, true, false, cond, _&&_, _||_}
-use mathlib.Core.List.{List, [], _∷_}
+use mathlib.Core.List.{List, [], _∷_, _++_}
 use mathlib.Core.Path.{_≡_, refl, sym, _∙_, ap}
 use native.Mathlib.Omega.{arith}
 use borrow.Author.Tests.{lt-leb, le-leb, lt-ltb, le-ltb, eq-eqb, ne-eqb, leb-true, leb-false, eqb-true, eqb-false}
 use lib.Dec.{leb, ltb, eqb}
-use lib.ListN.{length, getD, drop, drop-of-length-le}
+use lib.ListN.{length, getD, drop, length-append, drop-of-length-le}
 use Rattle.base.specs.Limits.{edge}
 use Rattle.base.specs.declared.Check.{Check}
 use Rattle.base.specs.declared.Check.the-variants.{Fine, Refused}
 use Rattle.base.specs.declared.Ground.the-variants.{WordEmpty, WordLong, NotLetter}
 use Rattle.base.proofs.Lists.{cons-at, never}
 use Rattle.words.specs.Symbols.{small, capital, letter, lower, digit, symbolOf, symbolsOf, dot}
-use Rattle.words.specs.Words.{allLetters, judgeWord}
+use Rattle.words.specs.Words.{allLetters, judgeWord, wordSymbols, rowOf}
 
 -- a range of bytes, from below and from above
 pub below-range : (lo hi b : ℕ) → b < lo → false ≡ (leb lo b && leb b hi)
@@ -125,3 +125,18 @@ symbols-skip b t e = rw e
 pub symbols-keep : (b : ℕ) (t : List ℕ) → eqb (symbolOf b) 0 ≡ false → symbolsOf (b ∷ t) ≡ symbolOf b ∷ symbolsOf t
 unfolding symbolsOf
 symbols-keep b t e = rw e
+
+-- a word's symbols, letter by letter
+pub symbols-append : (a b : List ℕ) → wordSymbols (a ++ b) ≡ wordSymbols a ++ wordSymbols b
+unfolding wordSymbols
+symbols-append [] b = refl
+symbols-append (x ∷ a) b = ap (λ (l : List ℕ). symbolOf (lower x) ∷ l) (symbols-append a b)
+
+pub symbols-length : (w : List ℕ) → length (wordSymbols w) ≡ length w
+unfolding wordSymbols
+symbols-length [] = refl
+symbols-length (x ∷ w) = ap suc (symbols-length w)
+
+pub row-length : (w : List ℕ) → length (rowOf w) ≡ length w + 2
+unfolding rowOf
+row-length w = ap suc (length-append (wordSymbols w) (edge ∷ [])) ∙ omega (arith, symbols-length w)

@@ -1,0 +1,81 @@
+use borrow.Author.Needs.{needs}
+use Prim.Native.Nat.{_≤_, _+_, _-_}
+use mathlib.Core.List.{_∷_}
+use mathlib.Core.Path.{_≡_, sym, _∙_}
+use native.Mathlib.Omega.{arith}
+use lib.ListN.{length, take, length-set}
+use Rattle.base.specs.Limits.{edge}
+use Rattle.words.specs.Words.{wordSymbols}
+use Rattle.walk.proofs.Laws.{row-start, row-turn, row-end}
+use Rattle.walk.proofs.Laws.{row-kept}
+use Rattle.walk.proofs.fill_row.Statement.{statement}
+use Rattle.walk.proofs.fill_row.Tie as tie
+
+abbrev Inv-loop : tie.InvT-loop
+Inv-loop word row₀ i₀ row i = (i ≤ length word) × (length row ≡ length row₀) × (length word + 2 ≤ length row₀) × (take (i + 1) row ≡ edge ∷ wordSymbols (take i word))
+
+abbrev μ-loop : tie.MeasureT-loop
+μ-loop word row₀ i₀ row i = length word - i
+
+slice-write-row : tie.Need-slice-write-row Inv-loop μ-loop
+slice-write-row c = search needs
+
+loop-holds : tie.Need-loop-holds Inv-loop μ-loop
+loop-holds c = (search needs, search needs, simp length-set (search needs), row-start (c .before .before .args .word .now) (c .before .before .args .row .now) (omega (arith, c .before .before .pre)))
+
+shared-slice-read-lower-of : tie.Need-shared-slice-read-lower-of Inv-loop μ-loop
+shared-slice-read-lower-of c = search needs
+
+lower-of-requires : tie.Need-lower-of-requires Inv-loop μ-loop
+lower-of-requires c κs = search needs
+
+symbol-of-requires : tie.Need-symbol-of-requires Inv-loop μ-loop
+symbol-of-requires c κs = search needs
+
+add-row : tie.Need-add-row Inv-loop μ-loop
+add-row c = search needs
+
+slice-write-row-2 : tie.Need-slice-write-row-2 Inv-loop μ-loop
+slice-write-row-2 c = search needs
+
+add-i : tie.Need-add-i Inv-loop μ-loop
+add-i c = search needs
+
+loop-less : tie.Need-loop-less Inv-loop μ-loop
+loop-less c = search needs
+
+loop-again : tie.Need-loop-again Inv-loop μ-loop
+loop-again c = (search needs, simp length-set (simp length-set at (c .before .before .before .before .loop .inv .1)), search needs, row-turn (c .before .before .before .before .before .before .before .args .word .now) (c .before .before .before .before .loop .row) (c .before .before .before .before .loop .i) (c .before .before .before .loop-test .taken) (omega (arith, c .before .before .before .before .loop .inv .1, c .before .before .before .before .loop .inv .2, c .before .before .before .loop-test .taken)) (c .before .before .before .before .loop .inv .3) (c .before .lower-of .ensures) (c .symbol-of .ensures))
+
+add-row-2 : tie.Need-add-row-2 Inv-loop μ-loop
+add-row-2 c = search needs
+
+slice-write-row-3 : tie.Need-slice-write-row-3 Inv-loop μ-loop
+slice-write-row-3 c = search needs
+
+same-length : tie.Need-same-length Inv-loop μ-loop
+same-length c = row-kept (c .before .before .before .before .args .row .now) (c .before .loop .row) (c .before .loop .i + 1) edge (c .before .loop .inv .1)
+
+returns : tie.Need-returns Inv-loop μ-loop
+returns c = row-end (c .before .before .before .before .args .word .now) (c .before .loop .row) (c .before .loop .i) (omega arith) (omega (arith, c .before .loop .inv .1, c .before .loop .inv .2, c .before .loop .inv .0)) (c .before .loop .inv .3)
+
+pub fill-row-spec : {M : Type 1} → statement M
+fill-row-spec =
+    tie.close
+    (tie.spec
+    Inv-loop
+    μ-loop
+    slice-write-row
+    loop-holds
+    shared-slice-read-lower-of
+    lower-of-requires
+    symbol-of-requires
+    add-row
+    slice-write-row-2
+    add-i
+    loop-less
+    loop-again
+    add-row-2
+    slice-write-row-3
+    same-length
+    returns)
