@@ -1,0 +1,282 @@
+-- What stands in a room at each byte: after settings are raised, after a line is marked, and in a sheet.
+use Prim.Native.Nat.{ℕ, zero, suc, _+_, _-_, _≤_, _<_, min, max}
+use mathlib.Core.Bool.{Bool, true, false, cond, _&&_}
+use mathlib.Core.List.{List, [], _∷_, _++_}
+use mathlib.Core.Path.{_≡_, refl, sym, _∙_, ap}
+use native.Mathlib.Decide.{decLt}
+use native.Mathlib.Omega.{arith}
+use borrow.Author.Tests.{lt-ltb, le-ltb, lt-leb, ltb-true, ltb-false, eqb-true, eqb-false, leb-true}
+use lib.Dec.{leb, ltb, eqb, leb·suc-suc}
+use lib.ListN.{length, getD, take, drop, set, length-append, length-drop, length-set, List·getD-append}
+use lib.Seq.{getD-set-same, getD-set-other, getD-append-add, getD-drop, ext-getD, drop-append-seam, take-append-seam, take-all}
+use Rattle.base.specs.Limits.{roomSize, wordLimit}
+use Rattle.words.specs.Symbols.{hyphen}
+use Rattle.words.specs.Words.{rowOf, inner}
+use Rattle.lookup.specs.Find.{findEither}
+use Rattle.lookup.specs.declared.Located.{Located}
+use Rattle.lookup.specs.declared.Located.the-variants.{Customer, House, Nowhere}
+use Rattle.liang.specs.Breaks.{hyphenAt, levelBreak, breakBy, isBreak}
+use Rattle.walk.specs.Chain.{Setting}
+use Rattle.walk.specs.Walk.{settings, looks}
+use Rattle.walk.specs.Raise.{highestSet, raise, raiseAll}
+use Rattle.walk.specs.Post.{Walked}
+use Rattle.walk.proofs.Laws.{raise-length, raises-length}
+use Rattle.hyphenation.specs.Sheet.{sheetFrom, sheet, written, bit}
+use Rattle.hyphenation.specs.Levels.{levelAt, levelSheet, wordLooks}
+use Rattle.hyphenation.specs.Breaks.{mark, breakSheet, unlessListed, breakLooks}
+use Rattle.hyphenation.specs.Post.{Done, lineSheet, oddSheet}
+use Rattle.hyphenation.proofs.Laws.{sheet-length, sheet-at}
+
+-- one setting raised: the byte of its gap becomes the higher of the two, where the gap is an inner one
+module _ (n : ℕ) (s : Setting) (room : List ℕ) (i : ℕ) (h : i < length room) where
+  raise-here : s .before ≡ suc i → getD (raise n s room) i 0 ≡ max (getD room i 0) (cond (inner n i) (s .level) 0)
+  unfolding raise inner
+  raise-here e =
+      let k : suc i - 1 ≡ i = omega arith in
+      rw (e, k, leb·suc-suc 1 i) (go (leb 1 i) (leb (suc i) n) (ltb (getD room i 0) (s .level)) refl)
+    where
+      go : (a b c : Bool) → ltb (getD room i 0) (s .level) ≡ c
+          → getD (cond (a && (b && c)) (set room i (s .level)) room) i 0 ≡ max (getD room i 0) (cond (a && b) (s .level) 0)
+      go true true true p = getD-set-same room i (s .level) 0 h ∙ omega (arith, ltb-true (getD room i 0) (s .level) p)
+      go true true false p = omega (arith, ltb-false (getD room i 0) (s .level) p)
+      go true false c p = omega arith
+      go false b c p = omega arith
+
+  raise-elsewhere : (s .before ≡ suc i → ⊥) → getD (raise n s room) i 0 ≡ getD room i 0
+  unfolding raise
+  raise-elsewhere d = go (leb 2 (s .before)) refl (leb (s .before) n && ltb (getD room (s .before - 1) 0) (s .level))
+    where
+      go : (a : Bool) → leb 2 (s .before) ≡ a → (b : Bool) → getD (cond (a && b) (set room (s .before - 1) (s .level)) room) i 0 ≡ getD room i 0
+      go true p true = getD-set-other room (s .before - 1) i (s .level) 0 (λ q. omega (arith, q, d, leb-true 2 (s .before) p))
+      go true p false = refl
+      go false p b = refl
+
+  raise-at : getD (raise n s room) i 0 ≡ max (getD room i 0) (cond (inner n i) (cond (eqb (s .before) (suc i)) (s .level) 0) 0)
+  raise-at = go (eqb (s .before) (suc i)) refl
+    where
+      go : (z : Bool) → eqb (s .before) (suc i) ≡ z → getD (raise n s room) i 0 ≡ max (getD room i 0) (cond (inner n i) (cond z (s .level) 0) 0)
+      go true p = raise-here (eqb-true (s .before) (suc i) p)
+      go false p = raise-elsewhere (eqb-false (s .before) (suc i) p) ∙ none (inner n i)
+        where
+          none : (z : Bool) → getD room i 0 ≡ max (getD room i 0) (cond z 0 0)
+          none true = omega arith
+          none false = omega arith
+
+-- all settings raised: "the highest level so set"
+pub raised-at : (n : ℕ) (sets : List Setting) (room : List ℕ) (i : ℕ) → i < length room
+    → getD (raiseAll n sets room) i 0 ≡ max (getD room i 0) (cond (inner n i) (highestSet sets (suc i)) 0)
+unfolding raiseAll highestSet
+raised-at n [] room i h = go (inner n i)
+  where
+    go : (z : Bool) → getD room i 0 ≡ max (getD room i 0) (cond z 0 0)
+    go true = omega arith
+    go false = omega arith
+raised-at n (s ∷ rest) room i h =
+    raised-at n rest (raise n s room) i (omega (arith, raise-length n s room))
+    ∙ join (inner n i) (getD room i 0) (cond (eqb (s .before) (suc i)) (s .level) 0) (highestSet rest (suc i)) (getD (raise n s room) i 0) (raise-at n s room i h)
+  where
+    join : (z : Bool) (a b c d : ℕ) → d ≡ max a (cond z b 0) → max d (cond z c 0) ≡ max a (cond z (max b c) 0)
+    join true a b c d e = omega (arith, e)
+    join false a b c d e = omega (arith, e)
+
+-- a room that has a sheet, byte by byte
+pub written-length : (f : ℕ → ℕ) (d : List ℕ) → roomSize ≤ length d → length (written (sheet f) d) ≡ length d
+unfolding written sheet
+written-length f d h =
+    length-append (sheetFrom f 0 roomSize) (drop roomSize d) ∙ omega (arith, sheet-length f 0 roomSize, length-drop roomSize d)
+
+pub written-low : (f : ℕ → ℕ) (d : List ℕ) (i : ℕ) → i < roomSize → getD (written (sheet f) d) i 0 ≡ f i
+unfolding written sheet
+written-low f d i h =
+    List·getD-append (sheetFrom f 0 roomSize) (drop roomSize d) 0 i (omega (arith, sheet-length f 0 roomSize)) ∙ sheet-at f 0 roomSize i h ∙ ap f (omega arith)
+
+pub written-high : (f : ℕ → ℕ) (d : List ℕ) (i : ℕ) → roomSize ≤ i → getD (written (sheet f) d) i 0 ≡ getD d i 0
+unfolding written sheet
+written-high f d i h =
+    let e : i ≡ length (sheetFrom f 0 roomSize) + (i - roomSize) = omega (arith, sheet-length f 0 roomSize) in
+    let g : roomSize + (i - roomSize) ≡ i = omega arith in
+    ap (λ (k : ℕ). getD (sheetFrom f 0 roomSize ++ drop roomSize d) k 0) e
+    ∙ getD-append-add (sheetFrom f 0 roomSize) (drop roomSize d) (i - roomSize) 0
+    ∙ getD-drop roomSize d (i - roomSize) 0
+    ∙ ap (λ (k : ℕ). getD d k 0) g
+
+pub written-is : (f : ℕ → ℕ) (d a : List ℕ) → roomSize ≤ length d → length a ≡ length d → ((i : ℕ) → i < roomSize → getD a i 0 ≡ f i)
+    → ((i : ℕ) → roomSize ≤ i → i < length d → getD a i 0 ≡ getD d i 0) → a ≡ written (sheet f) d
+written-is f d a h l low high = ext-getD 0 a (written (sheet f) d) (l ∙ sym (written-length f d h)) (λ i k. at i k (decLt i roomSize))
+  where
+    at : (i : ℕ) → i < length a → Dec (i < roomSize) → getD a i 0 ≡ getD (written (sheet f) d) i 0
+    at i k (yes p) = low i p ∙ sym (written-low f d i p)
+    at i k (no p) = high i (omega arith) (omega arith) ∙ sym (written-high f d i (omega arith))
+
+pub sheet-same : (f g : ℕ → ℕ) → ((i : ℕ) → i < roomSize → f i ≡ g i) → sheet f ≡ sheet g
+unfolding sheet
+sheet-same f g e =
+    ext-getD 0 (sheetFrom f 0 roomSize) (sheetFrom g 0 roomSize) (sheet-length f 0 roomSize ∙ sym (sheet-length g 0 roomSize))
+    (λ i k. at i (omega (arith, k, sheet-length f 0 roomSize)))
+  where
+    at : (i : ℕ) → i < roomSize → getD (sheetFrom f 0 roomSize) i 0 ≡ getD (sheetFrom g 0 roomSize) i 0
+    at i k = sheet-at f 0 roomSize i k ∙ e (0 + i) (omega arith) ∙ sym (sheet-at g 0 roomSize i k)
+
+pub written-again : (f g : ℕ → ℕ) (d : List ℕ) → written (sheet f) (written (sheet g) d) ≡ written (sheet f) d
+unfolding written sheet
+written-again f g d =
+    ap (λ (l : List ℕ). sheetFrom f 0 roomSize ++ l)
+    (ap (λ (k : ℕ). drop k (sheetFrom g 0 roomSize ++ drop roomSize d)) (sym (sheet-length g 0 roomSize)) ∙ drop-append-seam (sheetFrom g 0 roomSize) (drop roomSize d))
+
+pub written-take : (f : ℕ → ℕ) (d : List ℕ) → take roomSize (written (sheet f) d) ≡ sheet f
+unfolding written sheet
+written-take f d =
+    ap (λ (k : ℕ). take k (sheetFrom f 0 roomSize ++ drop roomSize d)) (sym (sheet-length f 0 roomSize)) ∙ take-append-seam (sheetFrom f 0 roomSize) (drop roomSize d)
+
+-- the level room
+module _ (cells entries : List ℕ) (root : ℕ) (word room : List ℕ) (short : length word ≤ wordLimit) (large : roomSize ≤ length room) where
+  pub levels-room : raiseAll (length word) (settings cells entries root 0 (rowOf word)) (written (sheet (λ i. 0)) room) ≡ written (levelSheet cells entries root word) room
+  unfolding levelSheet
+  levels-room =
+      written-is (levelAt cells entries root word) room (raiseAll (length word) sets clean) large
+      (raises-length (length word) sets clean ∙ written-length (λ i. 0) room large) low high
+    where
+      sets : List Setting
+      sets = settings cells entries root 0 (rowOf word)
+      clean : List ℕ
+      clean = written (sheet (λ i. 0)) room
+      fits : (i : ℕ) → i < length room → i < length clean
+      fits i k = omega (arith, k, written-length (λ i. 0) room large)
+      low : (i : ℕ) → i < roomSize → getD (raiseAll (length word) sets clean) i 0 ≡ levelAt cells entries root word i
+      low i k = unfold levelAt in (raised-at (length word) sets clean i (fits i (omega arith)) ∙ omega (arith, written-low (λ i. 0) room i k))
+      outside : (i : ℕ) → roomSize ≤ i → inner (length word) i ≡ false
+      outside i k = unfold inner in rw (le-ltb i (length word) (omega arith)) (none (leb 1 i))
+        where
+          none : (z : Bool) → (z && false) ≡ false
+          none true = refl
+          none false = refl
+      high : (i : ℕ) → roomSize ≤ i → i < length room → getD (raiseAll (length word) sets clean) i 0 ≡ getD room i 0
+      high i k l = raised-at (length word) sets clean i (fits i l) ∙ rw (outside i k) (omega (arith, written-high (λ i. 0) room i k))
+
+  pub levels-done : {count : ℕ} {after : List ℕ}
+      → Walked cells entries root (min (length word) wordLimit) (rowOf (take (min (length word) wordLimit) word)) (written (sheet (λ i. 0)) room) count after
+      → Done (levelSheet cells entries root word) (wordLooks cells root word) room count after
+  unfolding wordLooks
+  levels-done w =
+      let m : min (length word) wordLimit ≡ length word = omega arith in
+      let t : take (length word) word ≡ word = take-all (length word) word (omega arith) in
+      let v = rw (m, t) at w in
+      record { counted = v .counted; memory = v .raised ∙ levels-room }
+
+  pub breaks-done : (left right : ℕ) {count : ℕ} {levels after : List ℕ} → Done (levelSheet cells entries root word) (wordLooks cells root word) room count levels
+      → after ≡ written (sheet (λ i. bit (levelBreak left right (length word) (λ k. getD levels k 0) i))) levels
+      → Done (oddSheet left right cells entries root word) (wordLooks cells root word) room count after
+  unfolding oddSheet levelSheet
+  breaks-done left right {levels = levels} d e =
+      record {
+        counted = d .counted;
+        memory = e ∙ ap (λ (l : List ℕ). written l levels) (sheet-same _ _ same) ∙ rw (d .memory) (written-again _ _ room)
+      }
+    where
+      at : (i : ℕ) → i < roomSize → getD levels i 0 ≡ levelAt cells entries root word i
+      at i k = rw (d .memory) (written-low (levelAt cells entries root word) room i k)
+      same : (i : ℕ) → i < roomSize → bit (levelBreak left right (length word) (λ k. getD levels k 0) i) ≡ bit (levelBreak left right (length word) (levelAt cells entries root word) i)
+      same i k = unfold levelBreak in rw (at i k)
+
+-- a line marked, byte by byte; `next` is the recursive call
+pub mark-length : (gap : ℕ) (line room : List ℕ) → length (mark gap line room) ≡ length room
+unfolding mark
+mark-length gap [] room = refl
+mark-length gap (b ∷ t) room = go (eqb b hyphen) (ltb gap roomSize) (λ g r. mark-length g t r)
+  where
+    go : (z y : Bool) → ((g : ℕ) (r : List ℕ) → length (mark g t r) ≡ length r)
+        → length (cond z (mark gap t (cond y (set room gap 1) room)) (mark (gap + 1) t room)) ≡ length room
+    go true true next = next gap (set room gap 1) ∙ length-set room gap 1
+    go true false next = next gap room
+    go false y next = next (gap + 1) room
+
+mark-kept : (gap : ℕ) (line room : List ℕ) (i : ℕ) → (gap ≤ i → roomSize ≤ i) → getD (mark gap line room) i 0 ≡ getD room i 0
+unfolding mark
+mark-kept gap [] room i h = refl
+mark-kept gap (b ∷ t) room i h = go (eqb b hyphen) (ltb gap roomSize) refl (λ g r. mark-kept g t r i)
+  where
+    go : (z y : Bool) → ltb gap roomSize ≡ y → ((g : ℕ) (r : List ℕ) → (g ≤ i → roomSize ≤ i) → getD (mark g t r) i 0 ≡ getD r i 0)
+        → getD (cond z (mark gap t (cond y (set room gap 1) room)) (mark (gap + 1) t room)) i 0 ≡ getD room i 0
+    go true true p next =
+        next gap (set room gap 1) h
+        ∙ getD-set-other room gap i 1 0 (λ q. omega (arith, q, h (omega (arith, q)), ltb-true gap roomSize p))
+    go true false p next = next gap room h
+    go false y p next = next (gap + 1) room (λ k. h (omega (arith, k)))
+
+mark-here : (gap : ℕ) (line room : List ℕ) (j : ℕ) → gap + j < roomSize → gap + j < length room
+    → getD (mark gap line room) (gap + j) 0 ≡ cond (hyphenAt line j) 1 (getD room (gap + j) 0)
+unfolding mark hyphenAt
+mark-here gap [] room j h l = refl
+mark-here gap (b ∷ t) room zero h l = go (eqb b hyphen) (λ r k. mark-here gap t r zero h k)
+  where
+    below : gap < roomSize
+    below = omega arith
+    at : gap + zero ≡ gap
+    at = omega arith
+    one : (z : Bool) → _≡_ {A = ℕ} (cond z 1 1) 1
+    one true = refl
+    one false = refl
+    go : (z : Bool) → ((r : List ℕ) → gap + zero < length r → getD (mark gap t r) (gap + zero) 0 ≡ cond (hyphenAt t zero) 1 (getD r (gap + zero) 0))
+        → getD (cond z (mark gap t (cond (ltb gap roomSize) (set room gap 1) room)) (mark (gap + 1) t room)) (gap + zero) 0 ≡ cond z 1 (getD room (gap + zero) 0)
+    go true next =
+        rw (lt-ltb gap roomSize below) (next (set room gap 1) (omega (arith, l, length-set room gap 1)) ∙ rw (at, getD-set-same room gap 1 0 (omega (arith, l))) (one (hyphenAt t zero)))
+    go false next = mark-kept (gap + 1) t room (gap + zero) (λ k. omega (arith, k))
+mark-here gap (b ∷ t) room (suc j) h l = go (eqb b hyphen) (λ r k. mark-here gap t r (suc j) h k) (λ k m. mark-here (gap + 1) t room j k m)
+  where
+    below : gap < roomSize
+    below = omega arith
+    on : gap + 1 + j ≡ gap + suc j
+    on = omega arith
+    go : (z : Bool) → ((r : List ℕ) → gap + suc j < length r → getD (mark gap t r) (gap + suc j) 0 ≡ cond (hyphenAt t (suc j)) 1 (getD r (gap + suc j) 0))
+        → (gap + 1 + j < roomSize → gap + 1 + j < length room → getD (mark (gap + 1) t room) (gap + 1 + j) 0 ≡ cond (hyphenAt t j) 1 (getD room (gap + 1 + j) 0))
+        → getD (cond z (mark gap t (cond (ltb gap roomSize) (set room gap 1) room)) (mark (gap + 1) t room)) (gap + suc j) 0
+          ≡ cond (cond z (hyphenAt t (suc j)) (hyphenAt t j)) 1 (getD room (gap + suc j) 0)
+    go true next step =
+        rw (lt-ltb gap roomSize below) (next (set room gap 1) (omega (arith, l, length-set room gap 1)) ∙ rw (getD-set-other room gap (gap + suc j) 1 0 (λ q. omega (arith, q))))
+    go false next step = rw on at (step (omega (arith, h)) (omega (arith, l)))
+
+-- the break room of an exception line
+pub line-room : (line room : List ℕ) → roomSize ≤ length room → mark 0 line (written (sheet (λ i. 0)) room) ≡ written (lineSheet line) room
+unfolding lineSheet
+line-room line room large =
+    written-is (λ i. bit (hyphenAt line i)) room (mark 0 line clean) large (mark-length 0 line clean ∙ written-length (λ i. 0) room large) low high
+  where
+    clean : List ℕ
+    clean = written (sheet (λ i. 0)) room
+    asBit : (z : Bool) → cond z 1 0 ≡ bit z
+    asBit true = refl
+    asBit false = refl
+    low : (i : ℕ) → i < roomSize → getD (mark 0 line clean) i 0 ≡ bit (hyphenAt line i)
+    low i k =
+        let z : 0 + i ≡ i = omega arith in
+        rw z at (mark-here 0 line clean i (omega arith) (omega (arith, written-length (λ i. 0) room large))) ∙ rw (written-low (λ i. 0) room i k) (asBit (hyphenAt line i))
+    high : (i : ℕ) → roomSize ≤ i → i < length room → getD (mark 0 line clean) i 0 ≡ getD room i 0
+    high i k l = mark-kept 0 line clean i (λ q. k) ∙ written-high (λ i. 0) room i k
+
+-- the breaks, by where the word's line stands
+module _ (left right root : ℕ) (word customer house cells entries room : List ℕ) {at : Located} (p : at ≡ findEither word customer house) where
+  breaks-by : {l : Located} → at ≡ l
+      → breakSheet left right customer house cells entries root word
+        ≡ sheet (λ i. bit (breakBy l customer house (levelBreak left right (length word) (levelAt cells entries root word)) i))
+  unfolding breakSheet isBreak
+  breaks-by q =
+      ap (λ (l : Located). sheet (λ i. bit (breakBy l customer house (levelBreak left right (length word) (levelAt cells entries root word)) i))) (sym p ∙ q)
+
+  looks-by : {l : Located} → at ≡ l → breakLooks customer house cells root word ≡ unlessListed l (wordLooks cells root word)
+  unfolding breakLooks
+  looks-by q = ap (λ (l : Located). unlessListed l (wordLooks cells root word)) (sym p ∙ q)
+
+  pub by-customer : {start end : ℕ} {after : List ℕ} → at ≡ Customer start end → after ≡ written (lineSheet (take (end - start) (drop start customer))) room
+      → Done (breakSheet left right customer house cells entries root word) (breakLooks customer house cells root word) room 0 after
+  unfolding lineSheet
+  by-customer q r = record { counted = sym (looks-by q); memory = r ∙ ap (λ (l : List ℕ). written l room) (sym (breaks-by q)) }
+
+  pub by-house : {start end : ℕ} {after : List ℕ} → at ≡ House start end → after ≡ written (lineSheet (take (end - start) (drop start house))) room
+      → Done (breakSheet left right customer house cells entries root word) (breakLooks customer house cells root word) room 0 after
+  unfolding lineSheet
+  by-house q r = record { counted = sym (looks-by q); memory = r ∙ ap (λ (l : List ℕ). written l room) (sym (breaks-by q)) }
+
+  pub by-levels : {count : ℕ} {after : List ℕ} → at ≡ Nowhere → Done (oddSheet left right cells entries root word) (wordLooks cells root word) room count after
+      → Done (breakSheet left right customer house cells entries root word) (breakLooks customer house cells root word) room count after
+  unfolding oddSheet
+  by-levels q d = record { counted = d .counted ∙ sym (looks-by q); memory = d .memory ∙ ap (λ (l : List ℕ). written l room) (sym (breaks-by q)) }

@@ -1,0 +1,34 @@
+-- The breaks of a word over a table, and their count of looks.
+use Prim.Native.Nat.{ℕ, _+_}
+use mathlib.Core.Bool.{cond}
+use mathlib.Core.List.{List, [], _∷_}
+use lib.Dec.{ltb, eqb}
+use lib.ListN.{set}
+use Rattle.base.specs.Limits.{roomSize}
+use Rattle.words.specs.Symbols.{hyphen}
+use Rattle.lookup.specs.Find.{findEither}
+use Rattle.lookup.specs.declared.Located.{Located}
+use Rattle.lookup.specs.declared.Located.the-variants.{Customer, House, Nowhere}
+use Rattle.liang.specs.Breaks.{isBreak}
+use Rattle.hyphenation.specs.Sheet.{sheet, bit}
+use Rattle.hyphenation.specs.Levels.{levelAt, wordLooks}
+
+-- "byte i of the room is 1 if gap i is a break, the other bytes up to 63 are 0"
+unfoldable pub breakSheet : ℕ → ℕ → List ℕ → List ℕ → List ℕ → List ℕ → ℕ → List ℕ → List ℕ
+breakSheet left right customer house cells entries root word =
+    sheet (λ i. bit (isBreak left right customer house (levelAt cells entries root word) word i))
+
+-- "A break answer tells .. the count (0 for an exception word)".
+abbrev pub unlessListed : Located → ℕ → ℕ
+unlessListed (Customer start end) count = 0
+unlessListed (House start end) count = 0
+unlessListed Nowhere count = count
+
+unfoldable pub breakLooks : List ℕ → List ℕ → List ℕ → ℕ → List ℕ → ℕ
+breakLooks customer house cells root word = unlessListed (findEither word customer house) (wordLooks cells root word)
+
+-- An exception line's hyphens put into a room byte by byte: 1 at the number of letters before each. `gap` letters stand before
+-- the first byte given.
+unfoldable pub mark : ℕ → List ℕ → List ℕ → List ℕ
+mark gap [] room = room
+mark gap (b ∷ t) room = cond (eqb b hyphen) (mark gap t (cond (ltb gap roomSize) (set room gap 1) room)) (mark (gap + 1) t room)

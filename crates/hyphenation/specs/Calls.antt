@@ -1,0 +1,69 @@
+-- The levels call and the hyphenating call: their grounds in order, their answers, and what they leave in the room.
+use Prim.Native.Nat.{ℕ}
+use mathlib.Core.Bool.{_||_}
+use mathlib.Core.List.{List}
+use mathlib.Core.Path.{_≡_}
+use lib.Dec.{ltb}
+use lib.ListN.{length}
+use Rattle.base.specs.Limits.{wordLimit, roomSize}
+use Rattle.base.specs.Grounds.{first, refuseIf}
+use Rattle.base.specs.declared.Check.{Check}
+use Rattle.base.specs.declared.Check.the-variants.{Fine, Refused}
+use Rattle.base.specs.declared.Ground.the-variants.{Margin, RoomShort}
+use Rattle.words.specs.Words.{judgeWord}
+use Rattle.lists.specs.Lists.{judgeLists}
+use Rattle.liang.specs.Breaks.{badMargin}
+use Rattle.table.specs.Table.{judgeTable, cellsOf, entriesOf}
+use Rattle.hyphenation.specs.Sheet.{written, nonzero}
+use Rattle.hyphenation.specs.Levels.{levelSheet, wordLooks}
+use Rattle.hyphenation.specs.Breaks.{breakSheet, breakLooks}
+use Rattle.hyphenation.specs.declared.Answer.{Answer}
+use Rattle.hyphenation.specs.declared.Answer.the-variants as answers
+
+-- "The base starts at 0."
+abbrev pub rootBase : ℕ
+rootBase = 0
+
+-- Ground 5: "break or level room under 64 bytes".
+unfoldable pub judgeRoom : ℕ → Check
+judgeRoom size = refuseIf (ltb size roomSize) RoomShort
+
+-- Ground 1: "a margin outside 1 to 63".
+unfoldable pub judgeMargins : ℕ → ℕ → Check
+judgeMargins left right = refuseIf (badMargin left || badMargin right) Margin
+
+-- "levels call 5, 2, 4, 3, 9"
+unfoldable pub judgeLevels : List ℕ → List ℕ → ℕ → Check
+judgeLevels word table size = first (judgeRoom size) (first (judgeWord wordLimit word) (judgeTable table))
+
+-- "hyphenating call 1, 5, 2, 4, 3, 8 (customer, house), 6 (customer, house), 9"
+unfoldable pub judgeHyphenate : ℕ → ℕ → List ℕ → List ℕ → List ℕ → List ℕ → ℕ → Check
+judgeHyphenate left right word customer house table size =
+    first (judgeMargins left right)
+    (first (judgeRoom size)
+    (first (judgeWord wordLimit word)
+    (first (judgeLists customer house) (judgeTable table))))
+
+-- "An answer is either a finding or a refusal that carries its ground and place": a finding tells how many bytes of its sheet
+-- aren't 0, and the count of looks.
+abbrev pub answer : Check → List ℕ → ℕ → Answer
+answer Fine sheet looks = answers.Found (nonzero sheet) looks
+answer (Refused g) sheet looks = answers.Refused g
+
+-- "Refusals leave lent memory untouched"; a finding writes its sheet.
+abbrev pub roomAfter : Check → List ℕ → List ℕ → List ℕ
+roomAfter Fine sheet room = written sheet room
+roomAfter (Refused g) sheet room = room
+
+-- What the levels call returns and leaves. It "always walks".
+pub record Levels (word table room : List ℕ) (r : Answer) (after : List ℕ) : Type 0 where
+  pub answered : r ≡ answer (judgeLevels word table (length room)) (levelSheet (cellsOf table) (entriesOf table) rootBase word) (wordLooks (cellsOf table) rootBase word)
+  pub memory : after ≡ roomAfter (judgeLevels word table (length room)) (levelSheet (cellsOf table) (entriesOf table) rootBase word) room
+
+-- What the hyphenating call returns and leaves.
+pub record Breaks (left right : ℕ) (word customer house table room : List ℕ) (r : Answer) (after : List ℕ) : Type 0 where
+  pub answered : r ≡ answer (judgeHyphenate left right word customer house table (length room))
+      (breakSheet left right customer house (cellsOf table) (entriesOf table) rootBase word)
+      (breakLooks customer house (cellsOf table) rootBase word)
+  pub memory : after ≡ roomAfter (judgeHyphenate left right word customer house table (length room))
+      (breakSheet left right customer house (cellsOf table) (entriesOf table) rootBase word) room

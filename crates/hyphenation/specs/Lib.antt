@@ -1,0 +1,5 @@
+pub mod Sheet
+pub mod Levels
+pub mod Breaks
+pub mod Calls
+pub mod Post

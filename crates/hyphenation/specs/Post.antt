@@ -1,0 +1,20 @@
+-- What the parts of the calls leave, as one record for their contracts.
+use Prim.Native.Nat.{ℕ}
+use mathlib.Core.List.{List}
+use mathlib.Core.Path.{_≡_}
+use Rattle.liang.specs.Breaks.{hyphenAt, levelBreak}
+use lib.ListN.{length}
+use Rattle.hyphenation.specs.Sheet.{sheet, written, bit}
+use Rattle.hyphenation.specs.Levels.{levelAt}
+
+-- A sheet written into the room, and a count of looks returned.
+pub record Done (bytes : List ℕ) (looks : ℕ) (room : List ℕ) (count : ℕ) (after : List ℕ) : Type 0 where
+  pub counted : count ≡ looks
+  pub memory : after ≡ written bytes room
+
+-- The breaks by an exception line alone, and by the levels alone.
+unfoldable pub lineSheet : List ℕ → List ℕ
+lineSheet line = sheet (λ i. bit (hyphenAt line i))
+
+unfoldable pub oddSheet : ℕ → ℕ → List ℕ → List ℕ → ℕ → List ℕ → List ℕ
+oddSheet left right cells entries root word = sheet (λ i. bit (levelBreak left right (length word) (levelAt cells entries root word) i))

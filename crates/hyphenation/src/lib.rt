@@ -1,0 +1,243 @@
+// The levels call and the hyphenating call.
+use base::Check;
+use base::Ground;
+use lookup::Located;
+ghost use mathlib.Core.Path.{_≡_};
+ghost use Prim.Native.Nat.{_≤_};
+ghost use lib.ListN.{length, take, getD};
+ghost use Rattle.base.specs.Limits.{roomSize, wordLimit};
+ghost use Rattle.liang.specs.Breaks.{badMargin, levelBreak};
+ghost use Rattle.hyphenation.specs.Sheet.{sheet, written, nonzero, bit};
+ghost use Rattle.hyphenation.specs.Levels.{levelSheet, wordLooks};
+ghost use Rattle.hyphenation.specs.Breaks.{mark, breakSheet, breakLooks};
+ghost use Rattle.hyphenation.specs.Post.{Done, lineSheet, oddSheet};
+ghost use Rattle.hyphenation.specs.Calls.{judgeRoom, judgeMargins, judgeLevels, judgeHyphenate, Levels, Breaks};
+
+// What a call answers: how many bytes of the room it set, with the count of looks, or why it refuses.
+pub enum Answer {
+    Found { marks: usize, looks: usize },
+    Refused(Ground),
+}
+
+// Ground 5.
+pub fn judge_room(size: usize) -> Check
+    ensures { λ r. ⌜ r ≡ judgeRoom size ⌝ }
+{
+    if size < base::ROOM {
+        return Check::Refused(Ground::RoomShort);
+    }
+    Check::Fine
+}
+
+fn is_bad_margin(margin: usize) -> bool
+    ensures { λ r. ⌜ r ≡ badMargin margin ⌝ }
+{
+    if margin < 1 {
+        return true;
+    }
+    base::MARGIN_LIMIT < margin
+}
+
+// Ground 1.
+pub fn judge_margins(left: usize, right: usize) -> Check
+    ensures { λ r. ⌜ r ≡ judgeMargins left right ⌝ }
+{
+    if is_bad_margin(left) {
+        return Check::Refused(Ground::Margin);
+    }
+    if is_bad_margin(right) {
+        return Check::Refused(Ground::Margin);
+    }
+    Check::Fine
+}
+
+// The grounds of the levels call: 5, 2, 4, 3, 9.
+pub fn judge_levels(word: &[u8], table: &[u8], size: usize) -> Check
+    ensures { λ r. ⌜ r ≡ judgeLevels (now (word .entry)) (now (table .entry)) size ⌝ }
+{
+    let room = judge_room(size);
+    if let Check::Refused(g) = room {
+        return Check::Refused(g);
+    }
+    let own = words::judge_word(word, base::WORD_LIMIT);
+    if let Check::Refused(g) = own {
+        return Check::Refused(g);
+    }
+    table::judge_table(table)
+}
+
+// The grounds of the hyphenating call: 1, 5, 2, 4, 3, 8, 6, 9.
+pub fn judge_hyphenate(
+    left: usize,
+    right: usize,
+    word: &[u8],
+    customer: &[u8],
+    house: &[u8],
+    table: &[u8],
+    size: usize,
+) -> Check
+    ensures { λ r. ⌜ r ≡ judgeHyphenate left right (now (word .entry)) (now (customer .entry)) (now (house .entry)) (now (table .entry)) size ⌝ }
+{
+    let margins = judge_margins(left, right);
+    if let Check::Refused(g) = margins {
+        return Check::Refused(g);
+    }
+    let room = judge_room(size);
+    if let Check::Refused(g) = room {
+        return Check::Refused(g);
+    }
+    let own = words::judge_word(word, base::WORD_LIMIT);
+    if let Check::Refused(g) = own {
+        return Check::Refused(g);
+    }
+    let lists = lists::judge_lists(customer, house);
+    if let Check::Refused(g) = lists {
+        return Check::Refused(g);
+    }
+    table::judge_table(table)
+}
+
+// Zeros in the first bytes of a room.
+fn clear(room: &mut [u8])
+    requires { ⌜ roomSize ≤ length (now room) ⌝ }
+    ensures { λ _. ⌜ now (room .exit) ≡ written (sheet (λ i. 0)) (now (room .entry)) ⌝ }
+{
+    let mut i = 0;
+    while i < base::ROOM {
+        room[i] = 0;
+        i += 1;
+    }
+}
+
+// How many of the first bytes of a room aren't 0.
+fn count_marks(room: &[u8]) -> usize
+    requires { ⌜ roomSize ≤ length (now room) ⌝ }
+    ensures { λ r. ⌜ r ≡ nonzero (take roomSize (now (room .entry))) ⌝ }
+{
+    let mut count: usize = 0;
+    let mut i = 0;
+    while i < base::ROOM {
+        let b = room[i];
+        i += 1;
+        if b != 0 {
+            count += 1;
+        }
+    }
+    count
+}
+
+// An exception line's hyphens, put into the room.
+fn mark_line(line: &[u8], room: &mut [u8])
+    requires { ⌜ roomSize ≤ length (now room) ⌝ }
+    ensures { λ _. ⌜ now (room .exit) ≡ mark 0 (now (line .entry)) (now (room .entry)) ⌝ }
+{
+    let mut gap: usize = 0;
+    let mut i = 0;
+    while i < line.len() {
+        let b = line[i];
+        i += 1;
+        if b != 45 {
+            gap += 1;
+        } else {
+            if gap < base::ROOM {
+                room[gap] = 1;
+            }
+        }
+    }
+}
+
+// Is a gap with this level a break of a word of n letters?
+fn break_at(left: usize, right: usize, n: usize, level: u8, i: usize) -> u8
+    ensures { λ r. ⌜ r ≡ bit (levelBreak left right n (λ k. level) i) ⌝ }
+{
+    if i < 1 {
+        return 0;
+    }
+    if n <= i {
+        return 0;
+    }
+    if i < left {
+        return 0;
+    }
+    if n - i < right {
+        return 0;
+    }
+    level % 2
+}
+
+// The levels of a room turned into breaks.
+fn keep_breaks(left: usize, right: usize, n: usize, room: &mut [u8])
+    requires { ⌜ roomSize ≤ length (now room) ⌝ }
+    ensures { λ _. ⌜ now (room .exit) ≡ written (sheet (λ i. bit (levelBreak left right n (λ k. getD (now (room .entry)) k 0) i))) (now (room .entry)) ⌝ }
+{
+    let mut i = 0;
+    while i < base::ROOM {
+        room[i] = break_at(left, right, n, room[i], i);
+        i += 1;
+    }
+}
+
+// The levels of a judged word in a judged room, and the count of looks.
+fn levels_judged(cells: &[u8], entries: &[u8], root: u16, word: &[u8], room: &mut [u8]) -> usize
+    requires { ⌜ (length (now word) ≤ wordLimit) × (roomSize ≤ length (now room)) ⌝ }
+    ensures { λ r. ⌜ Done (levelSheet (now (cells .entry)) (now (entries .entry)) root (now (word .entry))) (wordLooks (now (cells .entry)) root (now (word .entry))) (now (room .entry)) r (now (room .exit)) ⌝ }
+{
+    clear(room);
+    walk::walk_word(cells, entries, root, word, room)
+}
+
+// The breaks of a judged word by an exception line.
+fn line_judged(line: &[u8], room: &mut [u8])
+    requires { ⌜ roomSize ≤ length (now room) ⌝ }
+    ensures { λ _. ⌜ now (room .exit) ≡ written (lineSheet (now (line .entry))) (now (room .entry)) ⌝ }
+{
+    clear(room);
+    mark_line(line, room);
+}
+
+// The breaks of a judged word by the levels.
+fn table_judged(
+    left: usize,
+    right: usize,
+    cells: &[u8],
+    entries: &[u8],
+    root: u16,
+    word: &[u8],
+    room: &mut [u8],
+) -> usize
+    requires { ⌜ (length (now word) ≤ wordLimit) × (roomSize ≤ length (now room)) ⌝ }
+    ensures { λ r. ⌜ Done (oddSheet left right (now (cells .entry)) (now (entries .entry)) root (now (word .entry))) (wordLooks (now (cells .entry)) root (now (word .entry))) (now (room .entry)) r (now (room .exit)) ⌝ }
+{
+    let looks = levels_judged(cells, entries, root, word, room);
+    keep_breaks(left, right, word.len(), room);
+    looks
+}
+
+// The breaks of a judged word over judged lists and a judged table.
+fn breaks_judged<'a>(
+    left: usize,
+    right: usize,
+    word: &[u8],
+    customer: &'a [u8],
+    house: &'a [u8],
+    cells: &[u8],
+    entries: &[u8],
+    root: u16,
+    room: &mut [u8],
+) -> usize
+    requires { ⌜ (length (now word) ≤ wordLimit) × (roomSize ≤ length (now room)) ⌝ }
+    ensures { λ r. ⌜ Done (breakSheet left right (now (customer .entry)) (now (house .entry)) (now (cells .entry)) (now (entries .entry)) root (now (word .entry))) (breakLooks (now (customer .entry)) (now (house .entry)) (now (cells .entry)) root (now (word .entry))) (now (room .entry)) r (now (room .exit)) ⌝ }
+{
+    let at = lookup::find_either(word, customer, house);
+    match at {
+        Located::Customer { start, end } => {
+            line_judged(&customer[start..end], room);
+            0
+        }
+        Located::House { start, end } => {
+            line_judged(&house[start..end], room);
+            0
+        }
+        Located::Nowhere => table_judged(left, right, cells, entries, root, word, room),
+    }
+}
