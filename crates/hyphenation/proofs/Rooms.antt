@@ -138,18 +138,23 @@ module _ (cells entries : List ℕ) (root : ℕ) (word room : List ℕ) (short :
     where
       sets : List Setting
       sets = settings cells entries root 0 (rowOf word)
+
       clean : List ℕ
       clean = written (sheet (λ i. 0)) room
+
       fits : (i : ℕ) → i < length room → i < length clean
       fits i k = omega (arith, k, written-length (λ i. 0) room large)
+
       low : (i : ℕ) → i < roomSize → getD (raiseAll (length word) sets clean) i 0 ≡ levelAt cells entries root word i
       low i k = unfold levelAt in (raised-at (length word) sets clean i (fits i (omega arith)) ∙ omega (arith, written-low (λ i. 0) room i k))
+
       outside : (i : ℕ) → roomSize ≤ i → inner (length word) i ≡ false
       outside i k = unfold inner in rw (le-ltb i (length word) (omega arith)) (none (leb 1 i))
         where
           none : (z : Bool) → (z && false) ≡ false
           none true = refl
           none false = refl
+
       high : (i : ℕ) → roomSize ≤ i → i < length room → getD (raiseAll (length word) sets clean) i 0 ≡ getD room i 0
       high i k l = raised-at (length word) sets clean i (fits i l) ∙ rw (outside i k) (omega (arith, written-high (λ i. 0) room i k))
 
@@ -170,11 +175,12 @@ module _ (cells entries : List ℕ) (root : ℕ) (word room : List ℕ) (short :
   breaks-done left right {levels = levels} d e =
       record {
         counted = d .counted;
-        memory = e ∙ ap (λ (l : List ℕ). written l levels) (sheet-same _ _ same) ∙ rw (d .memory) (written-again _ _ room)
+        memory = e ∙ ap (λ (l : List ℕ). written l levels) (sheet-same _ _ same) ∙ rw (d .memory) (written-again _ _ room);
       }
     where
       at : (i : ℕ) → i < roomSize → getD levels i 0 ≡ levelAt cells entries root word i
       at i k = rw (d .memory) (written-low (levelAt cells entries root word) room i k)
+
       same : (i : ℕ) → i < roomSize → bit (levelBreak left right (length word) (λ k. getD levels k 0) i) ≡ bit (levelBreak left right (length word) (levelAt cells entries root word) i)
       same i k = unfold levelBreak in rw (at i k)
 
@@ -211,11 +217,14 @@ mark-here gap (b ∷ t) room zero h l = go (eqb b hyphen) (λ r k. mark-here gap
   where
     below : gap < roomSize
     below = omega arith
+
     at : gap + zero ≡ gap
     at = omega arith
+
     one : (z : Bool) → _≡_ {A = ℕ} (cond z 1 1) 1
     one true = refl
     one false = refl
+
     go : (z : Bool) → ((r : List ℕ) → gap + zero < length r → getD (mark gap t r) (gap + zero) 0 ≡ cond (hyphenAt t zero) 1 (getD r (gap + zero) 0))
         → getD (cond z (mark gap t (cond (ltb gap roomSize) (set room gap 1) room)) (mark (gap + 1) t room)) (gap + zero) 0 ≡ cond z 1 (getD room (gap + zero) 0)
     go true next =
@@ -225,12 +234,14 @@ mark-here gap (b ∷ t) room (suc j) h l = go (eqb b hyphen) (λ r k. mark-here 
   where
     below : gap < roomSize
     below = omega arith
+
     on : gap + 1 + j ≡ gap + suc j
     on = omega arith
+
     go : (z : Bool) → ((r : List ℕ) → gap + suc j < length r → getD (mark gap t r) (gap + suc j) 0 ≡ cond (hyphenAt t (suc j)) 1 (getD r (gap + suc j) 0))
         → (gap + 1 + j < roomSize → gap + 1 + j < length room → getD (mark (gap + 1) t room) (gap + 1 + j) 0 ≡ cond (hyphenAt t j) 1 (getD room (gap + 1 + j) 0))
         → getD (cond z (mark gap t (cond (ltb gap roomSize) (set room gap 1) room)) (mark (gap + 1) t room)) (gap + suc j) 0
-          ≡ cond (cond z (hyphenAt t (suc j)) (hyphenAt t j)) 1 (getD room (gap + suc j) 0)
+        ≡ cond (cond z (hyphenAt t (suc j)) (hyphenAt t j)) 1 (getD room (gap + suc j) 0)
     go true next step =
         rw (lt-ltb gap roomSize below) (next (set room gap 1) (omega (arith, l, length-set room gap 1)) ∙ rw (getD-set-other room gap (gap + suc j) 1 0 (λ q. omega (arith, q))))
     go false next step = rw on at (step (omega (arith, h)) (omega (arith, l)))
@@ -243,13 +254,16 @@ line-room line room large =
   where
     clean : List ℕ
     clean = written (sheet (λ i. 0)) room
+
     asBit : (z : Bool) → cond z 1 0 ≡ bit z
     asBit true = refl
     asBit false = refl
+
     low : (i : ℕ) → i < roomSize → getD (mark 0 line clean) i 0 ≡ bit (hyphenAt line i)
     low i k =
         let z : 0 + i ≡ i = omega arith in
         rw z at (mark-here 0 line clean i (omega arith) (omega (arith, written-length (λ i. 0) room large))) ∙ rw (written-low (λ i. 0) room i k) (asBit (hyphenAt line i))
+
     high : (i : ℕ) → roomSize ≤ i → i < length room → getD (mark 0 line clean) i 0 ≡ getD room i 0
     high i k l = mark-kept 0 line clean i (λ q. k) ∙ written-high (λ i. 0) room i k
 
@@ -257,7 +271,7 @@ line-room line room large =
 module _ (left right root : ℕ) (word customer house cells entries room : List ℕ) {at : Located} (p : at ≡ findEither word customer house) where
   breaks-by : {l : Located} → at ≡ l
       → breakSheet left right customer house cells entries root word
-        ≡ sheet (λ i. bit (breakBy l customer house (levelBreak left right (length word) (levelAt cells entries root word)) i))
+      ≡ sheet (λ i. bit (breakBy l customer house (levelBreak left right (length word) (levelAt cells entries root word)) i))
   unfolding breakSheet isBreak
   breaks-by q =
       ap (λ (l : Located). sheet (λ i. bit (breakBy l customer house (levelBreak left right (length word) (levelAt cells entries root word)) i))) (sym p ∙ q)

@@ -241,3 +241,47 @@ fn breaks_judged<'a>(
         Located::Nowhere => table_judged(left, right, cells, entries, root, word, room),
     }
 }
+
+// The levels call.
+pub fn levels(word: &[u8], table: &[u8], room: &mut [u8]) -> Answer
+    ensures { λ r. ⌜ Levels (now (word .entry)) (now (table .entry)) (now (room .entry)) r (now (room .exit)) ⌝ }
+{
+    let judged = judge_levels(word, table, room.len());
+    if let Check::Refused(g) = judged {
+        return Answer::Refused(g);
+    }
+    let cells = table::cells_of(table);
+    let entries = table::entries_of(table);
+    let looks = levels_judged(cells, entries, 0, word, room);
+    let marks = count_marks(room);
+    Answer::Found {
+        marks: marks,
+        looks: looks,
+    }
+}
+
+// The hyphenating call.
+pub fn hyphenate<'a>(
+    left: usize,
+    right: usize,
+    word: &[u8],
+    customer: &'a [u8],
+    house: &'a [u8],
+    table: &[u8],
+    room: &mut [u8],
+) -> Answer
+    ensures { λ r. ⌜ Breaks left right (now (word .entry)) (now (customer .entry)) (now (house .entry)) (now (table .entry)) (now (room .entry)) r (now (room .exit)) ⌝ }
+{
+    let judged = judge_hyphenate(left, right, word, customer, house, table, room.len());
+    if let Check::Refused(g) = judged {
+        return Answer::Refused(g);
+    }
+    let cells = table::cells_of(table);
+    let entries = table::entries_of(table);
+    let looks = breaks_judged(left, right, word, customer, house, cells, entries, 0, room);
+    let marks = count_marks(room);
+    Answer::Found {
+        marks: marks,
+        looks: looks,
+    }
+}

@@ -1,0 +1,84 @@
+-- The two calls: what their judgements ensure, and how their parts come to their promises.
+use Prim.Native.Nat.{ℕ, _≤_}
+use mathlib.Core.List.{List}
+use mathlib.Core.Path.{_≡_, refl, sym, _∙_, ap}
+use borrow.Author.Tests.{ltb-false}
+use lib.Dec.{ltb, eqb}
+use lib.ListN.{length, take}
+use Rattle.base.specs.Limits.{wordLimit, roomSize}
+use Rattle.base.specs.Grounds.{refuseIf}
+use Rattle.base.specs.declared.Check.{Check}
+use Rattle.base.specs.declared.Check.the-variants.{Fine, Refused}
+use Rattle.base.specs.declared.Ground.{Ground}
+use Rattle.base.specs.declared.Ground.the-variants.{RoomShort, WordEmpty, WordLong}
+use Rattle.base.proofs.Grounds.{both-fine, not-refused}
+use Rattle.words.specs.Words.{judgeWord, allLetters}
+use Rattle.lists.specs.Lists.{judgeLists}
+use Rattle.table.specs.Table.{judgeTable, cellsOf, entriesOf}
+use Rattle.hyphenation.specs.Sheet.{sheet, written, nonzero}
+use Rattle.hyphenation.specs.Levels.{levelSheet, wordLooks}
+use Rattle.hyphenation.specs.Breaks.{breakSheet, breakLooks}
+use Rattle.hyphenation.specs.Post.{Done}
+use Rattle.hyphenation.specs.Calls.{rootBase, judgeRoom, judgeMargins, judgeLevels, judgeHyphenate, answer, roomAfter, Levels, Breaks}
+use Rattle.hyphenation.specs.declared.Answer.{Answer}
+use Rattle.hyphenation.specs.declared.Answer.the-variants as answers
+use Rattle.hyphenation.proofs.Rooms.{written-take}
+
+-- what a judged word and a judged room are
+pub word-fits : (limit : ℕ) (word : List ℕ) → judgeWord limit word ≡ Fine → length word ≤ limit
+unfolding judgeWord
+word-fits limit word e =
+    ltb-false limit (length word)
+    (not-refused (ltb limit (length word)) WordLong
+    (both-fine (refuseIf (ltb limit (length word)) WordLong) (allLetters 0 word) (both-fine (refuseIf (eqb (length word) 0) WordEmpty) _ e .1) .0))
+
+pub room-fits : (size : ℕ) → judgeRoom size ≡ Fine → roomSize ≤ size
+unfolding judgeRoom
+room-fits size e = ltb-false size roomSize (not-refused (ltb size roomSize) RoomShort e)
+
+-- a finding's marks are those of its sheet
+marked : (f : ℕ → ℕ) (room : List ℕ) {after : List ℕ} {marks : ℕ} → after ≡ written (sheet f) room → marks ≡ nonzero (take roomSize after) → marks ≡ nonzero (sheet f)
+marked f room e m = m ∙ rw (e, written-take f room)
+
+module _ (word table room : List ℕ) {judged : Check} (p : judged ≡ judgeLevels word table (length room)) where
+  pub levels-refused : {g : Ground} → judged ≡ Refused g → Levels word table room (answers.Refused g) room
+  levels-refused q = record { answered = rw (← p, q); memory = rw (← p, q) }
+
+  pub levels-sizes : judged ≡ Fine → (length word ≤ wordLimit) × (roomSize ≤ length room)
+  unfolding judgeLevels
+  levels-sizes q =
+      let a = both-fine (judgeRoom (length room)) _ (sym p ∙ q) in
+      let b = both-fine (judgeWord wordLimit word) (judgeTable table) (a .1) in
+      (word-fits wordLimit word (b .0), room-fits (length room) (a .0))
+
+  pub levels-found : judged ≡ Fine → {cells entries after : List ℕ} {marks looks : ℕ} → cells ≡ cellsOf table → entries ≡ entriesOf table
+      → Done (levelSheet cells entries rootBase word) (wordLooks cells rootBase word) room looks after → marks ≡ nonzero (take roomSize after)
+      → Levels word table room (answers.Found marks looks) after
+  unfolding levelSheet
+  levels-found q c e d m =
+      record {
+        answered = rw (← p, q, ← c, ← e, marked _ room (d .memory) m, d .counted);
+        memory = d .memory ∙ rw (← p, q, ← c, ← e)
+      }
+
+module _ (left right : ℕ) (word customer house table room : List ℕ) {judged : Check} (p : judged ≡ judgeHyphenate left right word customer house table (length room)) where
+  pub breaks-refused : {g : Ground} → judged ≡ Refused g → Breaks left right word customer house table room (answers.Refused g) room
+  breaks-refused q = record { answered = rw (← p, q); memory = rw (← p, q) }
+
+  pub breaks-sizes : judged ≡ Fine → (length word ≤ wordLimit) × (roomSize ≤ length room)
+  unfolding judgeHyphenate
+  breaks-sizes q =
+      let a = both-fine (judgeMargins left right) _ (sym p ∙ q) in
+      let b = both-fine (judgeRoom (length room)) _ (a .1) in
+      let c = both-fine (judgeWord wordLimit word) _ (b .1) in
+      (word-fits wordLimit word (c .0), room-fits (length room) (b .0))
+
+  pub breaks-found : judged ≡ Fine → {cells entries after : List ℕ} {marks looks : ℕ} → cells ≡ cellsOf table → entries ≡ entriesOf table
+      → Done (breakSheet left right customer house cells entries rootBase word) (breakLooks customer house cells rootBase word) room looks after → marks ≡ nonzero (take roomSize after)
+      → Breaks left right word customer house table room (answers.Found marks looks) after
+  unfolding breakSheet
+  breaks-found q c e d m =
+      record {
+        answered = rw (← p, q, ← c, ← e, marked _ room (d .memory) m, d .counted);
+        memory = d .memory ∙ rw (← p, q, ← c, ← e)
+      }
