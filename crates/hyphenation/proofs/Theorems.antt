@@ -1,0 +1,191 @@
+-- What the promises of the two calls come to, over any table.
+use Prim.Native.Nat.{ℕ, suc, _+_, _*_, _-_, _≤_}
+use mathlib.Core.Bool.{Bool}
+use mathlib.Core.List.{List, [], _∷_, map}
+use mathlib.Core.Logic.{_⊎_, inl, inr}
+use mathlib.Core.Path.{_≡_, refl, sym, _∙_, ap}
+use native.Mathlib.Omega.{arith}
+use lib.ListN.{length, take, drop}
+use Rattle.base.specs.Limits.{patternLimit, wordLimit}
+use Rattle.base.specs.Grounds.{first}
+use Rattle.base.specs.declared.Check.{Check}
+use Rattle.base.specs.declared.Check.the-variants.{Fine, Refused}
+use Rattle.words.specs.Symbols.{lower}
+use Rattle.words.specs.Words.{judgeWord, wordSymbols, rowOf, inner}
+use Rattle.words.proofs.Laws.{row-length}
+use Rattle.words.proofs.Theorems.{same-judgement, same-symbols, same-length}
+use Rattle.lists.specs.Lists.{judgeLists}
+use Rattle.lookup.specs.Find.{find, ownFirst, findEither}
+use Rattle.lookup.specs.declared.Found.{Found}
+use Rattle.lookup.specs.declared.Found.the-variants.{At, Nothing}
+use Rattle.lookup.specs.declared.Located.{Located}
+use Rattle.lookup.specs.declared.Located.the-variants.{Customer, House, Nowhere}
+use Rattle.liang.specs.Breaks.{hyphenAt, levelBreak, breakBy, isBreak}
+use Rattle.table.specs.Table.{judgeTable, cellsOf, entriesOf}
+use Rattle.walk.specs.Walk.{settings, looks}
+use Rattle.walk.specs.Raise.{highestSet}
+use Rattle.walk.proofs.Count.{looks-few}
+use Rattle.hyphenation.specs.Sheet.{sheet, nonzero, bit}
+use Rattle.hyphenation.specs.Levels.{levelAt, levelSheet, wordLooks}
+use Rattle.hyphenation.specs.Breaks.{breakSheet, unlessListed, breakLooks}
+use Rattle.hyphenation.specs.Calls.{rootBase, judgeRoom, judgeMargins, judgeLevels, judgeHyphenate, answer, roomAfter, Levels, Breaks}
+use Rattle.hyphenation.proofs.Rooms.{sheet-same}
+use Rattle.hyphenation.specs.declared.Answer.{Answer}
+use Rattle.hyphenation.specs.declared.Answer.the-variants as answers
+
+-- what it says that an answer is a finding
+pub record Finding (judged : Check) (sheet : List ℕ) (count marks looks : ℕ) : Type 0 where
+  pub judged-fine : judged ≡ Fine
+  pub marks-are : marks ≡ nonzero sheet
+  pub looks-are : looks ≡ count
+
+pub finding : (judged : Check) (sheet : List ℕ) (count marks looks : ℕ) → answers.Found marks looks ≡ answer judged sheet count → Finding judged sheet count marks looks
+finding Fine sheet count marks looks e = let m : marks ≡ nonzero sheet = cc in let l : looks ≡ count = cc in record { judged-fine = refl; marks-are = m; looks-are = l }
+finding (Refused g) sheet count marks looks e = let z : _≡_ {A = ℕ} 0 1 = cc in absurd (omega arith)
+
+word-few : (cells : List ℕ) (root : ℕ) (word : List ℕ) → wordLooks cells root word ≤ patternLimit * (length word + 2)
+unfolding wordLooks
+word-few cells root word = omega (arith, looks-few cells root (rowOf word), row-length word)
+
+-- "Over any table, a finding of either call carries the count of document 01's walk": at most 16(n + 2) looks.
+module _ (word table room after : List ℕ) (marks looks : ℕ) (l : Levels word table room (answers.Found marks looks) after) where
+  pub levels-count : looks ≡ wordLooks (cellsOf table) rootBase word
+  levels-count =
+      finding (judgeLevels word table (length room)) (levelSheet (cellsOf table) (entriesOf table) rootBase word) _ _ _ (l .answered) .looks-are
+
+  pub levels-limit : looks ≤ patternLimit * (length word + 2)
+  levels-limit = omega (arith, levels-count, word-few (cellsOf table) rootBase word)
+
+listed-few : (l : Located) (n m : ℕ) → n ≤ m → unlessListed l n ≤ m
+listed-few (Customer s e) n m h = omega arith
+listed-few (House s e) n m h = omega arith
+listed-few Nowhere n m h = h
+
+-- "but 0 from the hyphenating call where an exception line decides"
+module _ (left right : ℕ) (word customer house table room after : List ℕ) (marks looks : ℕ) (b : Breaks left right word customer house table room (answers.Found marks looks) after) where
+  breaks-count : looks ≡ breakLooks customer house (cellsOf table) rootBase word
+  breaks-count =
+      finding (judgeHyphenate left right word customer house table (length room)) (breakSheet left right customer house (cellsOf table) (entriesOf table) rootBase word) _ _ _ (b .answered) .looks-are
+
+  pub breaks-count-unlisted : findEither word customer house ≡ Nowhere → looks ≡ wordLooks (cellsOf table) rootBase word
+  unfolding breakLooks
+  breaks-count-unlisted e = breaks-count ∙ rw e
+
+  pub breaks-count-listed : {start end : ℕ} (l : Located) → (l ≡ Customer start end) ⊎ (l ≡ House start end) → findEither word customer house ≡ l → looks ≡ 0
+  unfolding breakLooks
+  breaks-count-listed l (inl p) e = breaks-count ∙ rw (e, p)
+  breaks-count-listed l (inr p) e = breaks-count ∙ rw (e, p)
+
+  pub breaks-limit : looks ≤ patternLimit * (length word + 2)
+  unfolding breakLooks
+  breaks-limit =
+      omega (arith, breaks-count, listed-few (findEither word customer house) (wordLooks (cellsOf table) rootBase word) (patternLimit * (length word + 2)) (word-few (cellsOf table) rootBase word))
+
+-- a break asks the levels at its own gap alone
+break-same : (l m : Located) (customer house : List ℕ) (f g : ℕ → Bool) (i : ℕ) → l ≡ m → f i ≡ g i → breakBy l customer house f i ≡ breakBy m customer house g i
+break-same l m customer house f g i e h = rw e (go m)
+  where
+    go : (k : Located) → breakBy k customer house f i ≡ breakBy k customer house g i
+    go (Customer start end) = refl
+    go (House start end) = refl
+    go Nowhere = h
+
+-- "Capitals count as small": words that differ only in case get the same answer and the same room.
+module _ (word other : List ℕ) (letters : map lower word ≡ map lower other) where
+  same-row : rowOf word ≡ rowOf other
+  unfolding rowOf
+  same-row = rw (same-symbols word other letters)
+
+  same-at : (cells entries : List ℕ) (root i : ℕ) → levelAt cells entries root word i ≡ levelAt cells entries root other i
+  unfolding levelAt
+  same-at cells entries root i = rw (same-row, same-length word other letters)
+
+  same-levels : (cells entries : List ℕ) (root : ℕ) → levelSheet cells entries root word ≡ levelSheet cells entries root other
+  unfolding levelSheet
+  same-levels cells entries root = sheet-same _ _ (λ i h. same-at cells entries root i)
+
+  same-looks : (cells : List ℕ) (root : ℕ) → wordLooks cells root word ≡ wordLooks cells root other
+  unfolding wordLooks
+  same-looks cells root = rw same-row
+
+  same-found : (customer house : List ℕ) → findEither word customer house ≡ findEither other customer house
+  unfolding findEither find
+  same-found customer house = rw (same-symbols word other letters)
+
+  same-breaks : (left right : ℕ) (customer house cells entries : List ℕ) (root : ℕ)
+      → breakSheet left right customer house cells entries root word ≡ breakSheet left right customer house cells entries root other
+  unfolding breakSheet isBreak levelBreak
+  same-breaks left right customer house cells entries root =
+      sheet-same _ _
+      (λ i h. ap bit (break-same (findEither word customer house) (findEither other customer house) customer house _ _ i (same-found customer house)
+        (rw (same-at cells entries root i, same-length word other letters))))
+
+  same-count : (customer house cells : List ℕ) (root : ℕ) → breakLooks customer house cells root word ≡ breakLooks customer house cells root other
+  unfolding breakLooks
+  same-count customer house cells root = rw (same-found customer house, same-looks cells root)
+
+  pub levels-case : (table room : List ℕ) {r s : Answer} {after after′ : List ℕ} → Levels word table room r after → Levels other table room s after′ → (r ≡ s) × (after ≡ after′)
+  unfolding judgeLevels
+  levels-case table room a b =
+      let j : judgeLevels word table (length room) ≡ judgeLevels other table (length room) = rw (same-judgement word other letters wordLimit) in
+      ( a .answered ∙ rw (j, same-levels (cellsOf table) (entriesOf table) rootBase, same-looks (cellsOf table) rootBase) (sym (b .answered))
+      , a .memory ∙ rw (j, same-levels (cellsOf table) (entriesOf table) rootBase) (sym (b .memory)) )
+
+  pub breaks-case : (left right : ℕ) (customer house table room : List ℕ) {r s : Answer} {after after′ : List ℕ}
+      → Breaks left right word customer house table room r after → Breaks left right other customer house table room s after′ → (r ≡ s) × (after ≡ after′)
+  unfolding judgeHyphenate
+  breaks-case left right customer house table room a b =
+      let j : judgeHyphenate left right word customer house table (length room) ≡ judgeHyphenate left right other customer house table (length room) = rw (same-judgement word other letters wordLimit) in
+      ( a .answered ∙ rw (j, same-breaks left right customer house (cellsOf table) (entriesOf table) rootBase, same-count customer house (cellsOf table) rootBase) (sym (b .answered))
+      , a .memory ∙ rw (j, same-breaks left right customer house (cellsOf table) (entriesOf table) rootBase) (sym (b .memory)) )
+
+-- The word's line in one list, as a list of none or one.
+pub ownLine : List ℕ → Found → List (List ℕ)
+ownLine text (At start end) = take (end - start) (drop start text) ∷ []
+ownLine text Nothing = []
+
+-- two lists agree on a word: both have no line for it, or both have the same
+pub Agree : (word text text′ : List ℕ) → Type 0
+Agree word text text′ = ownLine text (find word text) ≡ ownLine text′ (find word text′)
+
+lines-decide : (f o f′ o′ : Found) (c h c′ h′ : List ℕ) (byLevel : ℕ → Bool) (i : ℕ) → ownLine c f ≡ ownLine c′ f′ → ownLine h o ≡ ownLine h′ o′
+    → breakBy (ownFirst f o) c h byLevel i ≡ breakBy (ownFirst f′ o′) c′ h′ byLevel i
+unfolding ownLine
+lines-decide (At s e) o (At s′ e′) o′ c h c′ h′ byLevel i p q = let l : take (e - s) (drop s c) ≡ take (e′ - s′) (drop s′ c′) = cc in rw l
+lines-decide (At s e) o Nothing o′ c h c′ h′ byLevel i p q = let z : _≡_ {A = ℕ} 0 1 = cc in absurd (omega arith)
+lines-decide Nothing o (At s′ e′) o′ c h c′ h′ byLevel i p q = let z : _≡_ {A = ℕ} 0 1 = cc in absurd (omega arith)
+lines-decide Nothing (At s e) Nothing (At s′ e′) c h c′ h′ byLevel i p q = let l : take (e - s) (drop s h) ≡ take (e′ - s′) (drop s′ h′) = cc in rw l
+lines-decide Nothing (At s e) Nothing Nothing c h c′ h′ byLevel i p q = let z : _≡_ {A = ℕ} 0 1 = cc in absurd (omega arith)
+lines-decide Nothing Nothing Nothing (At s′ e′) c h c′ h′ byLevel i p q = let z : _≡_ {A = ℕ} 0 1 = cc in absurd (omega arith)
+lines-decide Nothing Nothing Nothing Nothing c h c′ h′ byLevel i p q = refl
+
+lines-count : (f o f′ o′ : Found) (c h c′ h′ : List ℕ) (n : ℕ) → ownLine c f ≡ ownLine c′ f′ → ownLine h o ≡ ownLine h′ o′
+    → unlessListed (ownFirst f o) n ≡ unlessListed (ownFirst f′ o′) n
+unfolding ownLine
+lines-count (At s e) o (At s′ e′) o′ c h c′ h′ n p q = refl
+lines-count (At s e) o Nothing o′ c h c′ h′ n p q = let z : _≡_ {A = ℕ} 0 1 = cc in absurd (omega arith)
+lines-count Nothing o (At s′ e′) o′ c h c′ h′ n p q = let z : _≡_ {A = ℕ} 0 1 = cc in absurd (omega arith)
+lines-count Nothing (At s e) Nothing (At s′ e′) c h c′ h′ n p q = refl
+lines-count Nothing (At s e) Nothing Nothing c h c′ h′ n p q = let z : _≡_ {A = ℕ} 0 1 = cc in absurd (omega arith)
+lines-count Nothing Nothing Nothing (At s′ e′) c h c′ h′ n p q = let z : _≡_ {A = ℕ} 0 1 = cc in absurd (omega arith)
+lines-count Nothing Nothing Nothing Nothing c h c′ h′ n p q = refl
+
+-- "Other lines don't matter: two sets of good lists that agree on a word's lines, or on having none, give it the same breaks and
+-- count over the same table and margins."
+module _ (word c h c′ h′ : List ℕ) (own : Agree word c c′) (other : Agree word h h′) where
+  agree-breaks : (left right : ℕ) (cells entries : List ℕ) (root : ℕ) → breakSheet left right c h cells entries root word ≡ breakSheet left right c′ h′ cells entries root word
+  unfolding breakSheet isBreak findEither Agree
+  agree-breaks left right cells entries root =
+      sheet-same _ _ (λ i k. ap bit (lines-decide (find word c) (find word h) (find word c′) (find word h′) c h c′ h′ (levelBreak left right (length word) (levelAt cells entries root word)) i own other))
+
+  agree-count : (cells : List ℕ) (root : ℕ) → breakLooks c h cells root word ≡ breakLooks c′ h′ cells root word
+  unfolding breakLooks findEither Agree
+  agree-count cells root = lines-count (find word c) (find word h) (find word c′) (find word h′) c h c′ h′ (wordLooks cells root word) own other
+
+  pub other-lines : (left right : ℕ) (table room : List ℕ) {r s : Answer} {after after′ : List ℕ} → judgeLists c h ≡ Fine → judgeLists c′ h′ ≡ Fine
+      → Breaks left right word c h table room r after → Breaks left right word c′ h′ table room s after′ → (r ≡ s) × (after ≡ after′)
+  unfolding judgeHyphenate
+  other-lines left right table room g g′ a b =
+      let j : judgeHyphenate left right word c h table (length room) ≡ judgeHyphenate left right word c′ h′ table (length room) = rw (g, g′) in
+      ( a .answered ∙ rw (j, agree-breaks left right (cellsOf table) (entriesOf table) rootBase, agree-count (cellsOf table) rootBase) (sym (b .answered))
+      , a .memory ∙ rw (j, agree-breaks left right (cellsOf table) (entriesOf table) rootBase) (sym (b .memory)) )
