@@ -20,3 +20,7 @@ nine = line "he2n" ++ line "hena4" ++ line "hen5at" ++ line "hy3ph" ++ line "2io
 -- a word of so many letters
 abbrev pub letters : ℕ → List ℕ
 letters n = replicate n 97
+
+-- "Empty list: C 1, E 0, 12 bytes": a head and one free cell.
+unfoldable pub emptyTable : List ℕ
+emptyTable = 1 ∷ 1 ∷ 0 ∷ 1 ∷ 0 ∷ 0 ∷ 2 ∷ 0 ∷ 0 ∷ 0 ∷ 0 ∷ 0 ∷ []

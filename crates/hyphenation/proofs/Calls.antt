@@ -58,7 +58,7 @@ module _ (word table room : List ℕ) {judged : Check} (p : judged ≡ judgeLeve
   levels-found q c e d m =
       record {
         answered = rw (← p, q, ← c, ← e, marked _ room (d .memory) m, d .counted);
-        memory = d .memory ∙ rw (← p, q, ← c, ← e)
+        memory = d .memory ∙ rw (← p, q, ← c, ← e);
       }
 
 module _ (left right : ℕ) (word customer house table room : List ℕ) {judged : Check} (p : judged ≡ judgeHyphenate left right word customer house table (length room)) where
@@ -80,5 +80,5 @@ module _ (left right : ℕ) (word customer house table room : List ℕ) {judged 
   breaks-found q c e d m =
       record {
         answered = rw (← p, q, ← c, ← e, marked _ room (d .memory) m, d .counted);
-        memory = d .memory ∙ rw (← p, q, ← c, ← e)
+        memory = d .memory ∙ rw (← p, q, ← c, ← e);
       }

@@ -118,7 +118,7 @@ module _ (word other : List ℕ) (letters : map lower word ≡ map lower other) 
   same-breaks left right customer house cells entries root =
       sheet-same _ _
       (λ i h. ap bit (break-same (findEither word customer house) (findEither other customer house) customer house _ _ i (same-found customer house)
-        (rw (same-at cells entries root i, same-length word other letters))))
+      (rw (same-at cells entries root i, same-length word other letters))))
 
   same-count : (customer house cells : List ℕ) (root : ℕ) → breakLooks customer house cells root word ≡ breakLooks customer house cells root other
   unfolding breakLooks
@@ -127,17 +127,19 @@ module _ (word other : List ℕ) (letters : map lower word ≡ map lower other) 
   pub levels-case : (table room : List ℕ) {r s : Answer} {after after′ : List ℕ} → Levels word table room r after → Levels other table room s after′ → (r ≡ s) × (after ≡ after′)
   unfolding judgeLevels
   levels-case table room a b =
-      let j : judgeLevels word table (length room) ≡ judgeLevels other table (length room) = rw (same-judgement word other letters wordLimit) in
-      ( a .answered ∙ rw (j, same-levels (cellsOf table) (entriesOf table) rootBase, same-looks (cellsOf table) rootBase) (sym (b .answered))
-      , a .memory ∙ rw (j, same-levels (cellsOf table) (entriesOf table) rootBase) (sym (b .memory)) )
+      let j : judgeLevels word table (length room) ≡ judgeLevels other table (length room) = rw (same-judgement word other letters wordLimit) in (
+        a .answered ∙ rw (j, same-levels (cellsOf table) (entriesOf table) rootBase, same-looks (cellsOf table) rootBase) (sym (b .answered)),
+        a .memory ∙ rw (j, same-levels (cellsOf table) (entriesOf table) rootBase) (sym (b .memory)),
+      )
 
   pub breaks-case : (left right : ℕ) (customer house table room : List ℕ) {r s : Answer} {after after′ : List ℕ}
       → Breaks left right word customer house table room r after → Breaks left right other customer house table room s after′ → (r ≡ s) × (after ≡ after′)
   unfolding judgeHyphenate
   breaks-case left right customer house table room a b =
-      let j : judgeHyphenate left right word customer house table (length room) ≡ judgeHyphenate left right other customer house table (length room) = rw (same-judgement word other letters wordLimit) in
-      ( a .answered ∙ rw (j, same-breaks left right customer house (cellsOf table) (entriesOf table) rootBase, same-count customer house (cellsOf table) rootBase) (sym (b .answered))
-      , a .memory ∙ rw (j, same-breaks left right customer house (cellsOf table) (entriesOf table) rootBase) (sym (b .memory)) )
+      let j : judgeHyphenate left right word customer house table (length room) ≡ judgeHyphenate left right other customer house table (length room) = rw (same-judgement word other letters wordLimit) in (
+        a .answered ∙ rw (j, same-breaks left right customer house (cellsOf table) (entriesOf table) rootBase, same-count customer house (cellsOf table) rootBase) (sym (b .answered)),
+        a .memory ∙ rw (j, same-breaks left right customer house (cellsOf table) (entriesOf table) rootBase) (sym (b .memory)),
+      )
 
 -- The word's line in one list, as a list of none or one.
 pub ownLine : List ℕ → Found → List (List ℕ)
@@ -186,6 +188,7 @@ module _ (word c h c′ h′ : List ℕ) (own : Agree word c c′) (other : Agre
       → Breaks left right word c h table room r after → Breaks left right word c′ h′ table room s after′ → (r ≡ s) × (after ≡ after′)
   unfolding judgeHyphenate
   other-lines left right table room g g′ a b =
-      let j : judgeHyphenate left right word c h table (length room) ≡ judgeHyphenate left right word c′ h′ table (length room) = rw (g, g′) in
-      ( a .answered ∙ rw (j, agree-breaks left right (cellsOf table) (entriesOf table) rootBase, agree-count (cellsOf table) rootBase) (sym (b .answered))
-      , a .memory ∙ rw (j, agree-breaks left right (cellsOf table) (entriesOf table) rootBase) (sym (b .memory)) )
+      let j : judgeHyphenate left right word c h table (length room) ≡ judgeHyphenate left right word c′ h′ table (length room) = rw (g, g′) in (
+        a .answered ∙ rw (j, agree-breaks left right (cellsOf table) (entriesOf table) rootBase, agree-count (cellsOf table) rootBase) (sym (b .answered)),
+        a .memory ∙ rw (j, agree-breaks left right (cellsOf table) (entriesOf table) rootBase) (sym (b .memory)),
+      )
