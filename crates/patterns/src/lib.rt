@@ -1,0 +1,111 @@
+// One pattern line by numbers: its symbols, its levels, and what two lines share.
+ghost use mathlib.Core.Path.{_≡_};
+ghost use Prim.Native.Nat.{_-_};
+ghost use lib.ListN.{length, getD};
+ghost use Rattle.words.specs.Symbols.{symbolsOf};
+ghost use Rattle.liang.specs.Patterns.{levelsFrom};
+ghost use Rattle.patterns.specs.Common.{common};
+
+// How many symbols a line has.
+pub fn symbol_count(line: &[u8]) -> usize
+    ensures { λ r. ⌜ r ≡ length (symbolsOf (now (line .entry))) ⌝ }
+{
+    let mut count: usize = 0;
+    let mut i = 0;
+    while i < line.len() {
+        let s = words::symbol_of(line[i]);
+        i += 1;
+        if s != 0 {
+            count += 1;
+        }
+    }
+    count
+}
+
+// A line's symbol by its number, from 0; 0 where there is none.
+pub fn symbol_at(line: &[u8], number: usize) -> u8
+    ensures { λ r. ⌜ r ≡ getD (symbolsOf (now (line .entry))) number 0 ⌝ }
+{
+    let mut left = number;
+    let mut i = 0;
+    while i < line.len() {
+        let s = words::symbol_of(line[i]);
+        i += 1;
+        if s != 0 {
+            if left == 0 {
+                return s;
+            }
+            left -= 1;
+        }
+    }
+    0
+}
+
+// The level of a pattern's gap with so many symbols before it; 0 where there is none.
+pub fn level_at(line: &[u8], gap: usize) -> u8
+    ensures { λ r. ⌜ r ≡ getD (levelsFrom 0 (now (line .entry))) gap 0 ⌝ }
+{
+    let mut left = gap;
+    let mut level: u8 = 0;
+    let mut i = 0;
+    while i < line.len() {
+        let b = line[i];
+        i += 1;
+        if words::is_digit(b) {
+            level = digit_value(b);
+        } else {
+            if words::symbol_of(b) != 0 {
+                if left == 0 {
+                    return level;
+                }
+                left -= 1;
+                level = 0;
+            }
+        }
+    }
+    if left == 0 {
+        return level;
+    }
+    0
+}
+
+// The number that a digit stands for.
+fn digit_value(b: u8) -> u8
+    ensures { λ r. ⌜ r ≡ b - 48 ⌝ }
+{
+    if b < 48 {
+        return 0;
+    }
+    b - 48
+}
+
+// How many leading symbols two lines share.
+pub fn shared(a: &[u8], b: &[u8]) -> usize
+    ensures { λ r. ⌜ r ≡ common (symbolsOf (now (a .entry))) (symbolsOf (now (b .entry))) ⌝ }
+{
+    let mut count: usize = 0;
+    let mut i = 0;
+    let mut j = 0;
+    while i < a.len() {
+        let x = words::symbol_of(a[i]);
+        if x == 0 {
+            i += 1;
+        } else {
+            if b.len() <= j {
+                return count;
+            }
+            let y = words::symbol_of(b[j]);
+            if y == 0 {
+                j += 1;
+            } else {
+                if x != y {
+                    return count;
+                }
+                count += 1;
+                i += 1;
+                j += 1;
+            }
+        }
+    }
+    count
+}
