@@ -15,7 +15,7 @@ pub const MARGIN_LIMIT: usize = 63;
 
 pub const EDGE: u8 = 27;
 
-pub const SYMBOLS: usize = 27;
+pub const SYMBOLS: u8 = 27;
 
 pub const PATTERN_LIMIT: usize = 16;
 

@@ -1,12 +1,12 @@
 -- What stands in a room at each byte: after settings are raised, after a line is marked, and in a sheet.
-use Prim.Native.Nat.{ℕ, zero, suc, _+_, _-_, _≤_, _<_, min, max}
+use Prim.Native.Nat.{ℕ, zero, suc, _+_, _-_, _≤_, _<_, min}
 use mathlib.Core.Bool.{Bool, true, false, cond, _&&_}
 use mathlib.Core.List.{List, [], _∷_, _++_}
 use mathlib.Core.Path.{_≡_, refl, sym, _∙_, ap}
 use native.Mathlib.Decide.{decLt}
 use native.Mathlib.Omega.{arith}
-use borrow.Author.Tests.{lt-ltb, le-ltb, lt-leb, ltb-true, ltb-false, eqb-true, eqb-false, leb-true}
-use lib.Dec.{leb, ltb, eqb, leb·suc-suc}
+use borrow.Author.Tests.{lt-ltb, le-ltb, ltb-true}
+use lib.Dec.{leb, ltb, eqb}
 use lib.ListN.{length, getD, take, drop, set, length-append, length-drop, length-set, List·getD-append}
 use lib.Seq.{getD-set-same, getD-set-other, getD-append-add, getD-drop, ext-getD, drop-append-seam, take-append-seam, take-all}
 use Rattle.base.specs.Limits.{roomSize, wordLimit}
@@ -18,66 +18,15 @@ use Rattle.lookup.specs.declared.Located.the-variants.{Customer, House, Nowhere
 use Rattle.liang.specs.Breaks.{hyphenAt, levelBreak, breakBy, isBreak}
 use Rattle.walk.specs.Chain.{Setting}
 use Rattle.walk.specs.Walk.{settings, looks}
-use Rattle.walk.specs.Raise.{highestSet, raise, raiseAll}
+use Rattle.walk.specs.Raise.{highestSet, raiseAll}
 use Rattle.walk.specs.Post.{Walked}
-use Rattle.walk.proofs.Laws.{raise-length, raises-length}
+use Rattle.walk.proofs.Laws.{raises-length}
+use Rattle.walk.proofs.Raised.{raised-at}
 use Rattle.hyphenation.specs.Sheet.{sheetFrom, sheet, written, bit}
 use Rattle.hyphenation.specs.Levels.{levelAt, levelSheet, wordLooks}
 use Rattle.hyphenation.specs.Breaks.{mark, breakSheet, unlessListed, breakLooks}
 use Rattle.hyphenation.specs.Post.{Done, lineSheet, oddSheet}
 use Rattle.hyphenation.proofs.Laws.{sheet-length, sheet-at}
-
--- one setting raised: the byte of its gap becomes the higher of the two, where the gap is an inner one
-module _ (n : ℕ) (s : Setting) (room : List ℕ) (i : ℕ) (h : i < length room) where
-  raise-here : s .before ≡ suc i → getD (raise n s room) i 0 ≡ max (getD room i 0) (cond (inner n i) (s .level) 0)
-  unfolding raise inner
-  raise-here e =
-      let k : suc i - 1 ≡ i = omega arith in
-      rw (e, k, leb·suc-suc 1 i) (go (leb 1 i) (leb (suc i) n) (ltb (getD room i 0) (s .level)) refl)
-    where
-      go : (a b c : Bool) → ltb (getD room i 0) (s .level) ≡ c
-          → getD (cond (a && (b && c)) (set room i (s .level)) room) i 0 ≡ max (getD room i 0) (cond (a && b) (s .level) 0)
-      go true true true p = getD-set-same room i (s .level) 0 h ∙ omega (arith, ltb-true (getD room i 0) (s .level) p)
-      go true true false p = omega (arith, ltb-false (getD room i 0) (s .level) p)
-      go true false c p = omega arith
-      go false b c p = omega arith
-
-  raise-elsewhere : (s .before ≡ suc i → ⊥) → getD (raise n s room) i 0 ≡ getD room i 0
-  unfolding raise
-  raise-elsewhere d = go (leb 2 (s .before)) refl (leb (s .before) n && ltb (getD room (s .before - 1) 0) (s .level))
-    where
-      go : (a : Bool) → leb 2 (s .before) ≡ a → (b : Bool) → getD (cond (a && b) (set room (s .before - 1) (s .level)) room) i 0 ≡ getD room i 0
-      go true p true = getD-set-other room (s .before - 1) i (s .level) 0 (λ q. omega (arith, q, d, leb-true 2 (s .before) p))
-      go true p false = refl
-      go false p b = refl
-
-  raise-at : getD (raise n s room) i 0 ≡ max (getD room i 0) (cond (inner n i) (cond (eqb (s .before) (suc i)) (s .level) 0) 0)
-  raise-at = go (eqb (s .before) (suc i)) refl
-    where
-      go : (z : Bool) → eqb (s .before) (suc i) ≡ z → getD (raise n s room) i 0 ≡ max (getD room i 0) (cond (inner n i) (cond z (s .level) 0) 0)
-      go true p = raise-here (eqb-true (s .before) (suc i) p)
-      go false p = raise-elsewhere (eqb-false (s .before) (suc i) p) ∙ none (inner n i)
-        where
-          none : (z : Bool) → getD room i 0 ≡ max (getD room i 0) (cond z 0 0)
-          none true = omega arith
-          none false = omega arith
-
--- all settings raised: "the highest level so set"
-pub raised-at : (n : ℕ) (sets : List Setting) (room : List ℕ) (i : ℕ) → i < length room
-    → getD (raiseAll n sets room) i 0 ≡ max (getD room i 0) (cond (inner n i) (highestSet sets (suc i)) 0)
-unfolding raiseAll highestSet
-raised-at n [] room i h = go (inner n i)
-  where
-    go : (z : Bool) → getD room i 0 ≡ max (getD room i 0) (cond z 0 0)
-    go true = omega arith
-    go false = omega arith
-raised-at n (s ∷ rest) room i h =
-    raised-at n rest (raise n s room) i (omega (arith, raise-length n s room))
-    ∙ join (inner n i) (getD room i 0) (cond (eqb (s .before) (suc i)) (s .level) 0) (highestSet rest (suc i)) (getD (raise n s room) i 0) (raise-at n s room i h)
-  where
-    join : (z : Bool) (a b c d : ℕ) → d ≡ max a (cond z b 0) → max d (cond z c 0) ≡ max a (cond z (max b c) 0)
-    join true a b c d e = omega (arith, e)
-    join false a b c d e = omega (arith, e)
 
 -- a room that has a sheet, byte by byte
 pub written-length : (f : ℕ → ℕ) (d : List ℕ) → roomSize ≤ length d → length (written (sheet f) d) ≡ length d

@@ -134,3 +134,11 @@ pub fn walk_word(cells: &[u8], entries: &[u8], root: u16, word: &[u8], room: &mu
     let end = n + 2;
     walk_row(cells, entries, root, &row[..end], n, room)
 }
+
+// The chain from number k on, for a path of m symbols, in a room whose byte g + 1 is for the gap with g of the symbols before it.
+pub fn chain_levels(entries: &[u8], k: u16, m: u8, room: &mut [u8])
+    ensures { λ _. ⌜ now (room .exit) ≡ raiseAll (m + 2) (chain (now (entries .entry)) m (m + 2) k) (now (room .entry)) ⌝ }
+{
+    let length = m as usize;
+    apply_chain(entries, k, room, length + 2, length, length + 2);
+}

@@ -1,0 +1,5 @@
+pub mod Strings
+pub mod Chains
+pub mod Matches
+pub mod Levels
+pub mod Looks
