@@ -7,12 +7,17 @@ use native.Mathlib.Decide.{decLt}
 use native.Mathlib.Omega.{arith}
 use native.Mathlib.Nat.{le-of-suc-le-suc}
 use lib.ListN.{length, getD}
+use Rattle.base.specs.Limits.{patternText}
+use Rattle.base.specs.declared.Check.the-variants.{Fine}
+use Rattle.base.proofs.Grounds.{both-fine}
 use Rattle.words.specs.Symbols.{symbolsOf}
 use Rattle.lines.specs.Lines.{cut}
 use Rattle.lines.specs.Order.{before}
 use Rattle.lines.proofs.Order.{before-trans, before-self}
-use Rattle.lists.specs.Lists.{goodLine, firstBad, judgeLines}
+use Rattle.lists.specs.Lists.{goodLine, firstBad, judgeLines, judgeSize, badPattern, judgePatterns}
 use Rattle.lists.specs.declared.Form.{Form}
+use Rattle.lists.specs.declared.Form.the-variants.{Patterns}
+use Rattle.lists.specs.declared.Lines.{Lines}
 use Rattle.lists.specs.declared.Lines.the-variants.{Good, BadAt}
 
 -- what a list that has no bad line says of its first line and of the rest
@@ -63,3 +68,12 @@ at-most-once form text e i j hi hj q = go (decLt i j) (decLt j i)
     go (yes p) d = absurd (before-self (symbolsOf (getD (cut text) j [])) (rw q at (ascending form text e i j p hj)))
     go (no p) (yes r) = absurd (before-self (symbolsOf (getD (cut text) j [])) (rw q at (ascending form text e j i r hi)))
     go (no p) (no r) = omega arith
+
+no-bad-pattern : (l : Lines) → badPattern l ≡ Fine → l ≡ Good
+no-bad-pattern Good e = refl
+no-bad-pattern (BadAt o) e = let z : _≡_ {A = ℕ} 0 1 = cc in absurd (omega arith)
+
+-- A pattern text that is judged fine has no bad line.
+pub patterns-good : (text : List ℕ) → judgePatterns text ≡ Fine → judgeLines Patterns text ≡ Good
+unfolding judgePatterns
+patterns-good text e = no-bad-pattern (judgeLines Patterns text) (both-fine (judgeSize patternText text) (badPattern (judgeLines Patterns text)) e .1)

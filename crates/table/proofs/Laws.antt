@@ -22,6 +22,10 @@ pub number-is : (t : List ℕ) (at : ℕ) → 256 * getD t at 0 + getD t (at + 1
 unfolding numberAt
 number-is t at = refl
 
+pub head-number : (t : List ℕ) (at : ℕ) {a b : ℕ} → a ≡ getD t at 0 → b ≡ getD t (at + 1) 0 → 256 * a + b ≡ numberAt t at
+unfolding numberAt
+head-number t at p q = rw (p, q)
+
 -- ground 9, in the order in which the code asks
 pub short-table : (t : List ℕ) → length t < 6 → Refused TableForm ≡ judgeTable t
 unfolding judgeTable formed

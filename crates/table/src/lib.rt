@@ -3,8 +3,8 @@ use base::Check;
 use base::Ground;
 ghost use mathlib.Core.Path.{_≡_};
 ghost use Prim.Native.Nat.{_+_, _<_};
-ghost use lib.ListN.{length};
-ghost use Rattle.table.specs.Table.{numberAt, judgeTable, cellsOf, entriesOf, look, entryAt};
+ghost use lib.ListN.{length, getD};
+ghost use Rattle.table.specs.Table.{numberAt, cellCount, entryCount, judgeTable, cellsOf, entriesOf, look, entryAt};
 
 // What a look at a cell finds.
 pub enum Look {
@@ -54,6 +54,30 @@ pub fn judge_table(table: &[u8]) -> Check
         return Check::Refused(Ground::TableForm);
     }
     Check::Fine
+}
+
+// A byte, or 0 past the end.
+fn byte_at(bytes: &[u8], at: usize) -> u8
+    ensures { λ r. ⌜ r ≡ getD (now (bytes .entry)) at 0 ⌝ }
+{
+    if at < bytes.len() {
+        return bytes[at];
+    }
+    0
+}
+
+// How many cells a table's head tells.
+pub fn cell_count(table: &[u8]) -> u16
+    ensures { λ r. ⌜ r ≡ cellCount (now (table .entry)) ⌝ }
+{
+    256 * (byte_at(table, 2) as u16) + byte_at(table, 3) as u16
+}
+
+// How many entries a table's head tells.
+pub fn entry_count(table: &[u8]) -> u16
+    ensures { λ r. ⌜ r ≡ entryCount (now (table .entry)) ⌝ }
+{
+    256 * (byte_at(table, 4) as u16) + byte_at(table, 5) as u16
 }
 
 // The bytes of a table's cells, as far as they are there.

@@ -1,0 +1,63 @@
+use borrow.Author.Needs.{needs}
+use mathlib.Core.Path.{refl, sym, _∙_}
+use borrow.Author.Tests.{not-true, not-false}
+use Rattle.checker.proofs.Laws.{right-cells, right-entries, right-root, right-lines}
+use Rattle.checker.proofs.is_right.Statement.{statement}
+use Rattle.checker.proofs.is_right.Tie as tie
+
+cells-of-requires : tie.Need-cells-of-requires
+cells-of-requires c κs = search needs
+
+entries-of-requires : tie.Need-entries-of-requires
+entries-of-requires c κs = search needs
+
+cell-count-requires : tie.Need-cell-count-requires
+cell-count-requires c κs = search needs
+
+are-kinds-requires : tie.Need-are-kinds-requires
+are-kinds-requires c κs = search needs
+
+returns : tie.Need-returns
+returns c = right-cells _ _ _ (c .before .before .before .before .cells-of .ensures) (c .before .before .before .entries-of .ensures) (c .before .before .cell-count .ensures) refl (c .before .are-kinds .ensures) (not-true _ (c .if1 .taken))
+
+entry-count-requires : tie.Need-entry-count-requires
+entry-count-requires c κs = search needs
+
+are-kinds-requires-2 : tie.Need-are-kinds-requires-2
+are-kinds-requires-2 c κs = search needs
+
+returns-2 : tie.Need-returns-2
+returns-2 c = right-entries _ _ _ (c .before .before .before .before .before .before .before .cells-of .ensures) (c .before .before .before .before .before .before .entries-of .ensures) (c .before .before .before .before .before .cell-count .ensures) (c .before .before .entry-count .ensures) (c .before .before .before .before .are-kinds .ensures) (not-false _ (c .before .before .before .if1 .left)) (c .before .are-kinds2 .ensures) (not-true _ (c .if2 .taken))
+
+slice-aggregate-is-continued : tie.Need-slice-aggregate-is-continued
+slice-aggregate-is-continued c = search needs
+
+is-continued-requires : tie.Need-is-continued-requires
+is-continued-requires c κs = search needs
+
+returns-3 : tie.Need-returns-3
+returns-3 c = right-root _ _ _ (c .before .before .before .before .before .before .before .before .before .before .cells-of .ensures) (c .before .before .before .before .before .before .before .before .before .entries-of .ensures) (c .before .before .before .before .before .before .before .before .cell-count .ensures) (c .before .before .before .before .before .entry-count .ensures) (c .before .before .before .before .before .before .before .are-kinds .ensures) (not-false _ (c .before .before .before .before .before .before .if1 .left)) (c .before .before .before .before .are-kinds2 .ensures) (not-false _ (c .before .before .before .if2 .left)) (c .before .is-continued .ensures) (not-true _ (c .if3 .taken))
+
+are-lines-right-requires : tie.Need-are-lines-right-requires
+are-lines-right-requires c κs = search needs
+
+returns-4 : tie.Need-returns-4
+returns-4 c = right-lines _ _ _ (c .before .before .before .before .before .before .before .before .before .before .before .cells-of .ensures) (c .before .before .before .before .before .before .before .before .before .before .entries-of .ensures) (c .before .before .before .before .before .before .before .before .before .cell-count .ensures) (c .before .before .before .before .before .before .entry-count .ensures) (c .before .before .before .before .before .before .before .before .are-kinds .ensures) (not-false _ (c .before .before .before .before .before .before .before .if1 .left)) (c .before .before .before .before .before .are-kinds2 .ensures) (not-false _ (c .before .before .before .before .if2 .left)) (c .before .before .is-continued .ensures) (not-false _ (c .before .if3 .left)) (c .are-lines-right .ensures)
+
+pub is-right-spec : {M : Type 1} → statement M
+is-right-spec =
+    tie.close
+    (tie.spec
+    cells-of-requires
+    entries-of-requires
+    cell-count-requires
+    are-kinds-requires
+    returns
+    entry-count-requires
+    are-kinds-requires-2
+    returns-2
+    slice-aggregate-is-continued
+    is-continued-requires
+    returns-3
+    are-lines-right-requires
+    returns-4)
