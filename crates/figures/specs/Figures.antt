@@ -1,5 +1,5 @@
 -- "Marked (p): proved from the written definitions as a single table under one statement."
-use Prim.Native.Nat.{ℕ, zero, suc, _-_}
+use Prim.Native.Nat.{ℕ, zero, suc, _+_, _*_, _-_}
 use mathlib.Core.Bool.{Bool, true, false, _&&_}
 use mathlib.Core.List.{List, [], _∷_, _++_, map}
 use mathlib.Core.Path.{_≡_, refl}
@@ -28,6 +28,15 @@ use Rattle.hyphenation.specs.Breaks.{breakSheet, breakLooks}
 use Rattle.hyphenation.specs.Calls.{rootBase, judgeRoom, judgeMargins, judgeLevels, judgeHyphenate, answer}
 use Rattle.hyphenation.specs.declared.Answer.{Answer}
 use Rattle.hyphenation.specs.declared.Answer.the-variants as answers
+use Rattle.table.specs.declared.Look.{Look}
+use Rattle.table.specs.declared.Look.the-variants.{Hit, Miss}
+use Rattle.patterns.specs.Common.{common}
+use Rattle.right.specs.Paths.{onward, along}
+use Rattle.right.specs.Right.{soundStep, soundFrom, sound}
+use Rattle.right.specs.Test.{allFrom, kindsFrom, child, nextIn, childrenRight, exactTest, nodeRight, followStep, follow, patternsRight, rightTest, judgeCheck}
+use Rattle.fit.specs.Cells.{putNumber, isFree, serves, smallest, baseFor, inside, putCell, putCells, cellOf, putLink, placeAt, place, opens, placeLength, placeLengths, layoutOf, usedFrom}
+use Rattle.fit.specs.Entries.{holds, findEntry, putEntry, enterAt, enter, enterLevels, enterPattern, putOutput, outputOf, outputsOf}
+use Rattle.fit.specs.Table.{putKinds, Fit, NoRoom, Packed, bytesOf, finish, fitLayout, firstFit}
 use Rattle.figures.specs.Samples.{bytes, line, nine, letters, emptyTable}
 
 -- What a judgement tells: a ground's number, list and place, and three zeros where nothing is refused.
@@ -64,6 +73,26 @@ levels patterns word = map (liang (patternsOf patterns) word) (count 1 (length w
 unfoldable pub breaks : List ℕ → List ℕ → List ℕ → List ℕ → List ℕ
 breaks patterns customer house word = map (λ i. bit (isBreak 2 3 customer house (liang (patternsOf patterns) word) word i)) (count 1 (length word - 1))
 
+-- The first-fit table of a text; no bytes where there is none.
+abbrev pub bytesIn : Fit → List ℕ
+bytesIn NoRoom = []
+bytesIn (Packed table) = table
+
+unfoldable pub packed : List ℕ → List ℕ
+packed text = bytesIn (firstFit (patternsOf text))
+
+-- The base of a path, written with letters: the link of its last cell.
+abbrev pub linkIn : Look → ℕ
+linkIn Miss = 0
+linkIn (Hit link output) = link
+
+unfoldable pub baseOf : List ℕ → List ℕ → ℕ
+baseOf table path = linkIn (along (cellsOf table) rootBase (wordSymbols path))
+
+-- Length, C and E of a table.
+unfoldable pub sizes : List ℕ → List ℕ
+sizes table = length table ∷ cellCount table ∷ entryCount table ∷ []
+
 abbrev pub allOf : List Bool → Bool
 allOf [] = true
 allOf (b ∷ t) = b && allOf t
@@ -71,6 +100,7 @@ allOf (b ∷ t) = b && allOf t
 -- The table: a row for each figure.
 unfoldable pub table : List Bool
 table =
+    let nineTable = packed nine in
     -- the nine patterns: "Good, ascending."
     same (tells (judgePatterns nine)) (0 ∷ 0 ∷ 0 ∷ [])
     -- ""hyphenation": levels 0 3 0 0 2 5 4 2 0 2; margins 2, 3 give hy-phen-ation."
@@ -79,6 +109,19 @@ table =
     -- ""on" has level 2, no break"
     ∷ same (levels nine (bytes "on")) (2 ∷ [])
     ∷ same (breaks nine [] [] (bytes "on")) (0 ∷ [])
+    -- "Its first-fit table: C 32, E 7, 233 bytes. Bases: h 1, i 2, n 3, o 4, t 7, he 5, hy 6, na 8, ti 9, hen 10, hyp 13, hena 11."
+    ∷ same (sizes nineTable) (233 ∷ 32 ∷ 7 ∷ [])
+    ∷ same (map (baseOf nineTable) (bytes "h" ∷ bytes "i" ∷ bytes "n" ∷ bytes "o" ∷ bytes "t" ∷ bytes "he" ∷ bytes "hy" ∷ bytes "na" ∷ bytes "ti" ∷ bytes "hen" ∷ bytes "hyp" ∷ bytes "hena" ∷ []))
+    (1 ∷ 2 ∷ 3 ∷ 4 ∷ 7 ∷ 5 ∷ 6 ∷ 8 ∷ 9 ∷ 10 ∷ 13 ∷ 11 ∷ [])
+    -- "Its count is 27 (limit 208); "on" has level 2, no break, count 6." Over the table the calls find the same.
+    ∷ same (hyphenateCall nineTable [] [] (bytes "hyphenation")) (0 ∷ 2 ∷ 27 ∷ 0 ∷ 1 ∷ 0 ∷ 0 ∷ 0 ∷ 1 ∷ 0 ∷ 0 ∷ 0 ∷ 0 ∷ [])
+    ∷ eqb (16 * (length (bytes "hyphenation") + 2)) 208
+    ∷ same (levelsCall nineTable (bytes "hyphenation")) (0 ∷ 6 ∷ 27 ∷ [])
+    ∷ same (levelsCall nineTable (bytes "on")) (0 ∷ 1 ∷ 6 ∷ [])
+    ∷ same (hyphenateCall nineTable [] [] (bytes "on")) (0 ∷ 0 ∷ 6 ∷ 0 ∷ [])
+    ∷ same (tells (judgeCheck nine nineTable)) (0 ∷ 0 ∷ 0 ∷ [])
+    -- "Empty list: C 1, E 0, 12 bytes."
+    ∷ same (packed []) emptyTable
     -- ""na": the 1 falls outside; level 0."
     ∷ same (levels nine (bytes "na")) (0 ∷ [])
     -- ""met-al" as house line, margins 2, 3: break after 3."
@@ -94,5 +137,5 @@ table =
     ∷ []
 
 pub figures : allOf table ≡ true
-unfolding table nine count levels breaks small capital letter lower digit symbolOf symbolsOf allLetters judgeWord wordSymbols rowOf inner glue cut isNil startsWith anyOf patternForm goodPattern exceptionForm goodException before goodLine firstBad judgeLines judgeSize judgePatterns judgeLists same findLine find findEither levelsFrom patternOf patternsOf begins levelHere levelOf highest liang hyphenAt inMargins odd levelBreak isBreak badMargin levelsCall hyphenateCall emptyTable numberAt cellCount entryCount formed judgeTable cellsOf entriesOf look entryAt setting chainStep chainFrom chain setStep setFrom lookStep looksFrom settings looks highestSet sheetFrom sheet nonzero levelAt levelSheet wordLooks breakSheet breakLooks judgeRoom judgeMargins judgeLevels judgeHyphenate
+unfolding table nine count levels breaks small capital letter lower digit symbolOf symbolsOf allLetters judgeWord wordSymbols rowOf inner glue cut isNil startsWith anyOf patternForm goodPattern exceptionForm goodException before goodLine firstBad judgeLines judgeSize judgePatterns judgeLists same findLine find findEither levelsFrom patternOf patternsOf begins levelHere levelOf highest liang hyphenAt inMargins odd levelBreak isBreak badMargin levelsCall hyphenateCall emptyTable numberAt cellCount entryCount formed judgeTable cellsOf entriesOf look entryAt setting chainStep chainFrom chain setStep setFrom lookStep looksFrom settings looks highestSet sheetFrom sheet nonzero levelAt levelSheet wordLooks breakSheet breakLooks judgeRoom judgeMargins judgeLevels judgeHyphenate packed baseOf sizes common onward along soundStep soundFrom sound allFrom kindsFrom child nextIn childrenRight exactTest nodeRight followStep follow patternsRight rightTest judgeCheck putNumber isFree serves smallest baseFor inside putCell putCells cellOf putLink placeAt place opens placeLength placeLengths layoutOf usedFrom holds findEntry putEntry enterAt enter enterLevels enterPattern putOutput outputOf outputsOf putKinds bytesOf finish fitLayout firstFit
 figures = refl
