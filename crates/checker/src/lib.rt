@@ -8,7 +8,7 @@ ghost use mathlib.Core.Bool.{Bool·beq, cond, _||_};
 ghost use mathlib.Core.List.{[], map};
 ghost use Prim.Native.Nat.{_+_, _≤_, _<_, suc};
 ghost use lib.Dec.{leb, eqb};
-ghost use lib.ListN.{length, drop, getD, set};
+ghost use lib.ListN.{length, drop, getD};
 ghost use Rattle.base.specs.Limits.{symbols};
 ghost use Rattle.words.specs.Symbols.{symbolsOf};
 ghost use Rattle.lines.specs.Lines.{cut};
@@ -18,7 +18,7 @@ ghost use Rattle.lists.specs.declared.Lines.{Lines};
 ghost use Rattle.liang.specs.Patterns.{levelsFrom, patternOf, patternsOf};
 ghost use Rattle.table.specs.Table.{cellCount, entryCount, cellsOf, entriesOf};
 ghost use Rattle.right.specs.Right.{sound};
-ghost use Rattle.right.specs.Test.{allFrom, kindsFrom, child, nextMask, childrenRight, exactTest, nodeRight, follow, patternsRight, rightTest, judgeCheck};
+ghost use Rattle.right.specs.Test.{allFrom, kindsFrom, child, childrenRight, exactTest, nodeRight, follow, patternsRight, rightTest, judgeCheck};
 
 // The kinds of so many records that stand size bytes apart.
 fn are_kinds(bytes: &[u8], size: u8, kind: u8, count: u16) -> bool
@@ -100,31 +100,6 @@ fn is_exact(entries: &[u8], line: &[u8], m: u8, output: u16) -> bool
     are_levels(line, length, &room)
 }
 
-// A mark in a mask, where it has that place.
-fn mark(mask: &mut [u8], symbol: u8)
-    ensures { λ _. ⌜ now (mask .exit) ≡ set (now (mask .entry)) symbol 1 ⌝ }
-{
-    let at = symbol as usize;
-    if at < mask.len() {
-        mask[at] = 1;
-    }
-}
-
-// Marks the symbols with which patterns go on behind the first m symbols of own. They are read from a place of the text on.
-fn mark_next(own: &[u8], m: usize, text: &[u8], at: usize, mask: &mut [u8])
-    ensures { λ _. ⌜ now (mask .exit) ≡ nextMask m (symbolsOf (now (own .entry))) (map patternOf (cut (drop at (now (text .entry))))) (now (mask .entry)) ⌝ }
-{
-    let mut i = at;
-    while i < text.len() {
-        let end = lines::line_end(text, i);
-        if patterns::shared(own, &text[i..end]) < m {
-            return;
-        }
-        mark(mask, patterns::symbol_at(&text[i..end], m));
-        i = end;
-    }
-}
-
 // Does the table go on with this symbol?
 fn has_child(cells: &[u8], leaf: bool, base: u16, symbol: u8) -> bool
     ensures { λ r. ⌜ r ≡ child (now (cells .entry)) leaf base symbol ⌝ }
@@ -177,7 +152,7 @@ fn is_continued(
     ensures { λ r. ⌜ r ≡ childrenRight (now (cells .entry)) leaf base m (symbolsOf (now (own .entry))) (map patternOf (cut (drop at (now (text .entry))))) ⌝ }
 {
     let mut mask = [0u8; 28];
-    mark_next(own, m, text, at, &mut mask);
+    patterns::mark_next(own, m, text, at, &mut mask);
     are_children(cells, leaf, base, &mask)
 }
 

@@ -1,10 +1,13 @@
 // One pattern line by numbers: its symbols, its levels, and what two lines share.
 ghost use mathlib.Core.Path.{_≡_};
 ghost use Prim.Native.Nat.{_-_};
-ghost use lib.ListN.{length, getD};
+ghost use mathlib.Core.List.{map};
+ghost use lib.ListN.{length, drop, getD, set};
+ghost use Rattle.lines.specs.Lines.{cut};
 ghost use Rattle.words.specs.Symbols.{symbolsOf};
-ghost use Rattle.liang.specs.Patterns.{levelsFrom};
+ghost use Rattle.liang.specs.Patterns.{levelsFrom, patternOf};
 ghost use Rattle.patterns.specs.Common.{common};
+ghost use Rattle.patterns.specs.Next.{nextMask};
 
 // How many symbols a line has.
 pub fn symbol_count(line: &[u8]) -> usize
@@ -108,4 +111,29 @@ pub fn shared(a: &[u8], b: &[u8]) -> usize
         }
     }
     count
+}
+
+// A mark in a mask, where it has that place.
+fn mark(mask: &mut [u8], symbol: u8)
+    ensures { λ _. ⌜ now (mask .exit) ≡ set (now (mask .entry)) symbol 1 ⌝ }
+{
+    let at = symbol as usize;
+    if at < mask.len() {
+        mask[at] = 1;
+    }
+}
+
+// Marks the symbols with which patterns go on behind the first m symbols of own. They are read from a place of the text on.
+pub fn mark_next(own: &[u8], m: usize, text: &[u8], at: usize, mask: &mut [u8])
+    ensures { λ _. ⌜ now (mask .exit) ≡ nextMask m (symbolsOf (now (own .entry))) (map patternOf (cut (drop at (now (text .entry))))) (now (mask .entry)) ⌝ }
+{
+    let mut i = at;
+    while i < text.len() {
+        let end = lines::line_end(text, i);
+        if shared(own, &text[i..end]) < m {
+            return;
+        }
+        mark(mask, symbol_at(&text[i..end], m));
+        i = end;
+    }
 }

@@ -4,7 +4,7 @@ use Prim.Native.Nat.{ℕ, zero, suc, _+_}
 use mathlib.Core.Bool.{Bool, true, false, cond, not, _&&_, _||_, Bool·beq}
 use mathlib.Core.List.{List, [], _∷_}
 use lib.Dec.{leb, eqb}
-use lib.ListN.{getD, set}
+use lib.ListN.{getD}
 use Rattle.base.specs.Limits.{symbols, patternLimit}
 use Rattle.base.specs.Grounds.{first, refuseIf}
 use Rattle.base.specs.declared.Check.{Check}
@@ -19,6 +19,7 @@ use Rattle.walk.specs.Chain.{chain}
 use Rattle.walk.specs.Raise.{highestSet}
 use Rattle.right.specs.Right.{sound}
 use Rattle.patterns.specs.Common.{common}
+unfoldable pub use Rattle.patterns.specs.Next.{nextIn}
 
 -- A test of n numbers from k on.
 unfoldable pub allFrom : (ℕ → Bool) → ℕ → ℕ → Bool
@@ -37,17 +38,6 @@ isHit (Hit link output) = true
 -- Does a path go on with this symbol? A leaf's does not; else it does where the cell at its base matches.
 unfoldable pub child : List ℕ → Bool → ℕ → ℕ → Bool
 child cells leaf base s = cond leaf false (isHit (look cells (base + s) s))
-
--- Does a pattern of the list go on with this symbol behind the first m symbols of `own`? The patterns are given from the first
--- that has these symbols on; they stand together, so that the first that has not ends the search.
-unfoldable pub nextIn : ℕ → List ℕ → List Pattern → ℕ → Bool
-nextIn m own [] s = false
-nextIn m own (p ∷ rest) s = leb m (common own (p .symbols)) && (eqb (getD (p .symbols) m 0) s || nextIn m own rest s)
-
--- The same as marks, symbol by symbol, put into a mask.
-unfoldable pub nextMask : ℕ → List ℕ → List Pattern → List ℕ → List ℕ
-nextMask m own [] mask = mask
-nextMask m own (p ∷ rest) mask = cond (leb m (common own (p .symbols))) (nextMask m own rest (set mask (getD (p .symbols) m 0) 1)) mask
 
 -- Table and list go on alike, symbol by symbol.
 unfoldable pub childrenRight : List ℕ → Bool → ℕ → ℕ → List ℕ → List Pattern → Bool

@@ -1,8 +1,8 @@
 use borrow.Author.Needs.{needs}
 use mathlib.Core.Path.{sym}
 use lib.Seq.{set-out}
-use Rattle.checker.proofs.mark.Statement.{statement}
-use Rattle.checker.proofs.mark.Tie as tie
+use Rattle.patterns.proofs.mark.Statement.{statement}
+use Rattle.patterns.proofs.mark.Tie as tie
 
 slice-write-mask : tie.Need-slice-write-mask
 slice-write-mask c = search needs

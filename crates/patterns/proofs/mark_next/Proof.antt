@@ -8,10 +8,10 @@ use Rattle.words.specs.Symbols.{symbolsOf}
 use Rattle.lines.specs.Lines.{cut}
 use Rattle.lines.proofs.Laws.{line-starts, line-ends}
 use Rattle.liang.specs.Patterns.{patternOf}
-use Rattle.right.specs.Test.{nextMask}
-use Rattle.checker.proofs.Laws.{next-other, next-mark, next-end}
-use Rattle.checker.proofs.mark_next.Statement.{statement}
-use Rattle.checker.proofs.mark_next.Tie as tie
+use Rattle.patterns.specs.Next.{nextMask}
+use Rattle.patterns.proofs.Next.{next-other, next-mark, next-end}
+use Rattle.patterns.proofs.mark_next.Statement.{statement}
+use Rattle.patterns.proofs.mark_next.Tie as tie
 
 abbrev Inv-loop : tie.InvT-loop
 Inv-loop own m text at mask₀ i₀ mask i = (length mask ≡ length mask₀) × (nextMask m (symbolsOf own) (map patternOf (cut (drop at text))) mask₀ ≡ nextMask m (symbolsOf own) (map patternOf (cut (drop i text))) mask)
