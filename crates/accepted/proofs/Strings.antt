@@ -16,7 +16,7 @@ use Rattle.liang.specs.Levels.{begins}
 use Rattle.right.specs.Paths.{allSymbols, nth}
 use Rattle.patterns.specs.Common.{common}
 
-both : (a b : Bool) → (a && b) ≡ true → (a ≡ true) × (b ≡ true)
+pub both : (a b : Bool) → (a && b) ≡ true → (a ≡ true) × (b ≡ true)
 both true b e = (refl, e)
 both false b e = never e
 

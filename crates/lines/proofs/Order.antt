@@ -11,7 +11,7 @@ use Rattle.base.proofs.Lists.{never}
 use Rattle.lines.specs.Order.{before}
 
 -- what it says of two lists that the first comes before the second
-first-differs : (x y : ℕ) (r : Bool) → (ltb x y || (eqb x y && r)) ≡ true → (x < y) ⊎ ((x ≡ y) × (r ≡ true))
+pub first-differs : (x y : ℕ) (r : Bool) → (ltb x y || (eqb x y && r)) ≡ true → (x < y) ⊎ ((x ≡ y) × (r ≡ true))
 first-differs x y r e = go (ltb x y) refl (eqb x y) refl e
   where
     go : (a : Bool) → ltb x y ≡ a → (b : Bool) → eqb x y ≡ b → (a || (b && r)) ≡ true → (x < y) ⊎ ((x ≡ y) × (r ≡ true))

@@ -41,6 +41,10 @@ pub small-low : (b : ℕ) → small b ≡ true → 97 ≤ b
 unfolding small
 small-low b e = range-low 97 122 b e
 
+pub small-high : (b : ℕ) → small b ≡ true → b ≤ 122
+unfolding small
+small-high b e = range-high 97 122 b e
+
 -- a letter is small or capital
 pub letter-small : (b : ℕ) → small b ≡ true → true ≡ letter b
 unfolding letter

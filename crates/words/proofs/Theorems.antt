@@ -26,7 +26,7 @@ capital-lowered b e =
     let k : b + 32 ≤ 122 = omega (arith, range-high 65 90 b e) in
     rw (le-leb 97 (b + 32) h, le-leb (b + 32) 122 k)
 
-letter-lower : (b : ℕ) → letter b ≡ small (lower b)
+pub letter-lower : (b : ℕ) → letter b ≡ small (lower b)
 unfolding letter lower
 letter-lower b = go (small b) refl (capital b) refl
   where

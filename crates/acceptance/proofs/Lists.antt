@@ -1,0 +1,160 @@
+-- What a good pattern list says of its patterns, and a well-formed table of its two parts.
+use Prim.Native.Nat.{ℕ, zero, suc, _+_, _*_, _-_, _≤_, _<_}
+use mathlib.Core.Bool.{Bool, true, false, cond, not, _&&_, _||_, and-false}
+use mathlib.Core.List.{List, [], _∷_, map}
+use mathlib.Core.Path.{_≡_, refl, sym, _∙_, ap}
+use native.Mathlib.Omega.{arith}
+use borrow.Author.Tests.{leb-true, le-leb, eqb-true, eqb-false, not-false}
+use lib.Dec.{leb, eqb}
+use lib.ListN.{length, getD, drop, length-map, length-drop}
+use lib.Seq.{length-take-le}
+use Rattle.base.specs.Limits.{edge, symbols, patternLimit, patternText}
+use Rattle.base.specs.declared.Check.the-variants.{Fine}
+use Rattle.base.specs.declared.Ground.the-variants.{TableForm}
+use Rattle.base.proofs.Grounds.{both-fine, not-refused}
+use Rattle.base.proofs.Lists.{never}
+use Rattle.words.specs.Symbols.{dot, small, digit, symbolOf, symbolsOf}
+use Rattle.words.proofs.Laws.{range-high, small-not-digit, small-symbol, other-symbol, digit-not-dot}
+use Rattle.lines.specs.Lines.{cut, anyOf, patternForm, goodPattern}
+use Rattle.lists.specs.Lists.{goodLine, firstBad, judgeLines, judgeSize, badPattern, judgePatterns}
+use Rattle.lists.specs.declared.Form.{Form}
+use Rattle.lists.specs.declared.Form.the-variants.{Patterns}
+use Rattle.lists.specs.declared.Lines.{Lines}
+use Rattle.lists.specs.declared.Lines.the-variants.{Good, BadAt}
+use Rattle.lists.proofs.Theorems.{passed, ascending}
+use Rattle.liang.specs.Patterns.{levelsFrom, patternOf, patternsOf}
+use Rattle.table.specs.Table.{headSize, cellSize, entrySize, cellCount, entryCount, formed, judgeTable, cellsOf, entriesOf}
+use Rattle.right.specs.Paths.{allSymbols, nth}
+use Rattle.accepted.specs.Shaped.{Shaped}
+use Rattle.accepted.proofs.Strings.{both}
+use Rattle.acceptance.proofs.Order.{Sorted}
+
+-- a symbol is 1 to 27
+symbol-most : (b : ℕ) → symbolOf b ≤ symbols
+unfolding symbolOf small
+symbol-most b = go (small b) refl (eqb b dot)
+  where
+    go : (z : Bool) → small b ≡ z → (d : Bool) → cond z (b - 96) (cond d edge 0) ≤ symbols
+    go true e d = omega (arith, range-high 97 122 b e)
+    go false e true = omega arith
+    go false e false = omega arith
+
+symbol-range : (b : ℕ) → eqb (symbolOf b) 0 ≡ false → (leb 1 (symbolOf b) && leb (symbolOf b) symbols) ≡ true
+symbol-range b e =
+    let z = eqb-false (symbolOf b) 0 e in
+    rw (le-leb 1 (symbolOf b) (omega arith), le-leb (symbolOf b) symbols (symbol-most b))
+
+-- so a line's symbols are, whatever its bytes
+line-alphabet : (line : List ℕ) → allSymbols (symbolsOf line) ≡ true
+unfolding allSymbols symbolsOf
+line-alphabet [] = refl
+line-alphabet (b ∷ t) = go (eqb (symbolOf b) 0) refl (line-alphabet t)
+  where
+    go : (z : Bool) → eqb (symbolOf b) 0 ≡ z → allSymbols (symbolsOf t) ≡ true → allSymbols (cond z (symbolsOf t) (symbolOf b ∷ symbolsOf t)) ≡ true
+    go true e next = next
+    go false e next = rw (symbol-range b e) next
+
+-- a line with a letter has a symbol
+line-some : (line : List ℕ) → anyOf small line ≡ true → 0 < length (symbolsOf line)
+unfolding anyOf symbolsOf
+line-some [] e = never e
+line-some (b ∷ t) e = go (small b) refl e (line-some t)
+  where
+    skip : (z : Bool) → 0 < length (symbolsOf t) → 0 < length (cond z (symbolsOf t) (symbolOf b ∷ symbolsOf t))
+    skip true h = h
+    skip false h = omega arith
+
+    go : (z : Bool) → small b ≡ z → (z || anyOf small t) ≡ true → (anyOf small t ≡ true → 0 < length (symbolsOf t)) → 0 < length (symbolsOf (b ∷ t))
+    go true p h next = rw (small-symbol b p) (omega arith)
+    go false p h next = skip (eqb (symbolOf b) 0) (next h)
+
+-- a digit is no symbol
+digit-symbol : (b : ℕ) → digit b ≡ true → eqb (symbolOf b) 0 ≡ true
+digit-symbol b d = go (small b) refl
+  where
+    go : (z : Bool) → small b ≡ z → eqb (symbolOf b) 0 ≡ true
+    go true p = never (sym (small-not-digit b p) ∙ d)
+    go false p = other-symbol b p (digit-not-dot b d)
+
+-- one level more than symbols
+line-levels : (level : ℕ) (line : List ℕ) → length (levelsFrom level line) ≡ suc (length (symbolsOf line))
+unfolding levelsFrom symbolsOf
+line-levels level [] = refl
+line-levels level (b ∷ t) = go (digit b) refl (eqb (symbolOf b) 0) refl (λ l. line-levels l t)
+  where
+    go : (d : Bool) → digit b ≡ d → (z : Bool) → eqb (symbolOf b) 0 ≡ z → ((l : ℕ) → length (levelsFrom l t) ≡ suc (length (symbolsOf t)))
+        → length (cond d (levelsFrom (b - 48) t) (cond z (levelsFrom level t) (level ∷ levelsFrom 0 t))) ≡ suc (length (cond z (symbolsOf t) (symbolOf b ∷ symbolsOf t)))
+    go true p true q next = next (b - 48)
+    go true p false q next = never (sym q ∙ digit-symbol b p)
+    go false p true q next = next level
+    go false p false q next = ap suc (next 0)
+
+good-shaped : (line : List ℕ) → goodPattern line ≡ true → Shaped (patternOf line)
+unfolding goodPattern patternOf
+good-shaped line e =
+    let a = both (patternForm true false line) (anyOf small line && (anyOf digit line && leb (length (symbolsOf line)) patternLimit)) e in
+    let b = both (anyOf small line) (anyOf digit line && leb (length (symbolsOf line)) patternLimit) (a .1) in
+    let c = both (anyOf digit line) (leb (length (symbolsOf line)) patternLimit) (b .1) in
+    record {
+      some = line-some line (b .0);
+      short = leb-true (length (symbolsOf line)) patternLimit (c .1);
+      alphabet = line-alphabet line;
+      measured = line-levels 0 line;
+    }
+
+-- every line of a list that has no bad line is good
+each-good : (form : Form) (at : ℕ) (above : List ℕ) (ls : List (List ℕ)) → firstBad form at above ls ≡ Good → (i : ℕ) → i < length ls → goodLine form (getD ls i []) ≡ true
+each-good form at above [] e i h = absurd (omega arith)
+each-good form at above (l ∷ ls) e zero h = passed form at above l ls e .good
+each-good form at above (l ∷ ls) e (suc i) h = each-good form (at + length l) l ls (passed form at above l ls e .onward) i (omega arith)
+
+lines-good : (l : Lines) → badPattern l ≡ Fine → l ≡ Good
+lines-good Good e = refl
+lines-good (BadAt at) e = let z : _≡_ {A = ℕ} 0 1 = cc in absurd (omega arith)
+
+-- a pattern by its line's number
+nth-line : (ls : List (List ℕ)) (i : ℕ) → i < length ls → nth (map patternOf ls) i ≡ patternOf (getD ls i [])
+nth-line [] i h = absurd (omega arith)
+nth-line (l ∷ ls) zero h = refl
+nth-line (l ∷ ls) (suc i) h = nth-line ls i (omega arith)
+
+module _ (text : List ℕ) (fine : judgePatterns text ≡ Fine) where
+  good : judgeLines Patterns text ≡ Good
+  unfolding judgePatterns
+  good = lines-good (judgeLines Patterns text) (both-fine (judgeSize patternText text) (badPattern (judgeLines Patterns text)) fine .1)
+
+  nth-pattern : (i : ℕ) → i < length (patternsOf text) → (i < length (cut text)) × (nth (patternsOf text) i ≡ patternOf (getD (cut text) i []))
+  unfolding patternsOf
+  nth-pattern i h = let k : i < length (cut text) = omega (arith, length-map (cut text) patternOf) in (k, nth-line (cut text) i k)
+
+  pub good-sorted : Sorted (patternsOf text)
+  unfolding patternOf
+  good-sorted i j k h =
+      let p = nth-pattern i (omega arith) in
+      let q = nth-pattern j h in
+      rw (p .1, q .1) (ascending Patterns text good i j k (q .0))
+
+  pub good-patterns : (i : ℕ) → i < length (patternsOf text) → Shaped (nth (patternsOf text) i)
+  unfolding judgeLines goodLine
+  good-patterns i h =
+      let p = nth-pattern i h in
+      rw (p .1) (good-shaped (getD (cut text) i []) (each-good Patterns 0 [] (cut text) good i (p .0)))
+
+-- the length that ground 9 asks for, part by part
+module _ (table : List ℕ) (fine : judgeTable table ≡ Fine) where
+  table-length : length table ≡ headSize + cellSize * cellCount table + entrySize * entryCount table
+  unfolding judgeTable formed
+  table-length = go (eqb (length table) (headSize + cellSize * cellCount table + entrySize * entryCount table)) refl
+    where
+      go : (z : Bool) → eqb (length table) (headSize + cellSize * cellCount table + entrySize * entryCount table) ≡ z
+          → length table ≡ headSize + cellSize * cellCount table + entrySize * entryCount table
+      go true e = eqb-true (length table) _ e
+      go false e = never (simp (e, and-false) at (not-false (formed table) (not-refused (not (formed table)) TableForm fine)))
+
+  pub cells-length : length (cellsOf table) ≡ 6 * cellCount table
+  unfolding cellsOf
+  cells-length = length-take-le (cellSize * cellCount table) (drop headSize table) (omega (arith, table-length, length-drop headSize table))
+
+  pub entries-length : length (entriesOf table) ≡ 5 * entryCount table
+  unfolding entriesOf
+  entries-length = omega (arith, table-length, length-drop (headSize + cellSize * cellCount table) table)

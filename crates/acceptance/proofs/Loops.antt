@@ -1,0 +1,100 @@
+-- The test's loops over numbers and over records, each by what it asks of every one.
+use Prim.Native.Nat.{ℕ, zero, suc, _+_, _*_, _≤_, _<_}
+use mathlib.Core.Bool.{Bool, true, false, Bool·beq}
+use mathlib.Core.List.{List}
+use mathlib.Core.Path.{_≡_, refl}
+use native.Mathlib.Decide.{decLt}
+use native.Mathlib.Nat.{zero-add, mul-suc}
+use native.Mathlib.Omega.{arith}
+use borrow.Author.Tests.{eqb-true, eq-eqb}
+use lib.Dec.{eqb}
+use lib.ListN.{length, getD}
+use Rattle.base.proofs.Lists.{never}
+use Rattle.table.specs.Table.{cellKind, entryKind, cellSize, entrySize}
+use Rattle.liang.specs.Patterns.{Pattern}
+use Rattle.walk.specs.Chain.{chain}
+use Rattle.walk.specs.Raise.{highestSet}
+use Rattle.right.specs.Right.{Exact, Kinds, sound}
+use Rattle.right.specs.Test.{allFrom, kindsFrom, exactTest}
+use Rattle.accepted.proofs.Strings.{both}
+
+-- two tests that hold together agree
+pub beq-same : (a b : Bool) → Bool·beq a b ≡ true → a ≡ b
+beq-same true true e = refl
+beq-same true false e = never e
+beq-same false true e = never e
+beq-same false false e = refl
+
+pub same-beq : (a b : Bool) → (a ≡ true → b ≡ true) → (b ≡ true → a ≡ true) → Bool·beq a b ≡ true
+same-beq true b p q = rw (p refl)
+same-beq false true p q = never (q refl)
+same-beq false false p q = refl
+
+module _ (test : ℕ → Bool) where
+  pub all-each : (k n : ℕ) → allFrom test k n ≡ true → (j : ℕ) → k ≤ j → j < k + n → test j ≡ true
+  unfolding allFrom
+  all-each k zero e j h l = absurd (omega arith)
+  all-each k (suc n) e j h l = go (decLt k j) (both (test k) (allFrom test (suc k) n) e) (all-each (suc k) n)
+    where
+      go : Dec (k < j) → (test k ≡ true) × (allFrom test (suc k) n ≡ true)
+          → (allFrom test (suc k) n ≡ true → (j : ℕ) → suc k ≤ j → j < suc k + n → test j ≡ true) → test j ≡ true
+      go (yes p) q next = next (q .1) j (omega arith) (omega arith)
+      go (no p) q next = let i : j ≡ k = omega arith in rw i (q .0)
+
+  pub each-all : (k n : ℕ) → ((j : ℕ) → k ≤ j → j < k + n → test j ≡ true) → allFrom test k n ≡ true
+  unfolding allFrom
+  each-all k zero h = refl
+  each-all k (suc n) h = rw (h k (omega arith) (omega arith)) (each-all (suc k) n (λ j p q. h j (omega arith) (omega arith)))
+
+module _ (size kind : ℕ) (bytes : List ℕ) where
+  step : (at j : ℕ) → at + size + size * j ≡ at + size * suc j
+  step at j = omega (arith, mul-suc size j)
+
+  pub kinds-each : (at n : ℕ) → kindsFrom size kind bytes at n ≡ true → (j : ℕ) → j < n → getD bytes (at + size * j) 0 ≡ kind
+  unfolding kindsFrom
+  kinds-each at zero e j h = absurd (omega arith)
+  kinds-each at (suc n) e zero h =
+      let p : at + size * 0 ≡ at = omega arith in
+      rw p (eqb-true (getD bytes at 0) kind (both (eqb (getD bytes at 0) kind) (kindsFrom size kind bytes (at + size) n) e .0))
+  kinds-each at (suc n) e (suc j) h =
+      rw (← step at j) (kinds-each (at + size) n (both (eqb (getD bytes at 0) kind) (kindsFrom size kind bytes (at + size) n) e .1) j (omega arith))
+
+  pub each-kinds : (at n : ℕ) → ((j : ℕ) → j < n → getD bytes (at + size * j) 0 ≡ kind) → kindsFrom size kind bytes at n ≡ true
+  unfolding kindsFrom
+  each-kinds at zero h = refl
+  each-kinds at (suc n) h =
+      let p : at + size * 0 ≡ at = omega arith in
+      rw (eq-eqb (getD bytes at 0) kind (rw p at (h 0 (omega arith)))) (each-kinds (at + size) n (λ j k. rw (step at j) (h (suc j) (omega arith))))
+
+-- The kinds' test asks it of every record that the bytes hold.
+module _ (cells entries : List ℕ) (c e : ℕ) (p : length cells ≡ 6 * c) (q : length entries ≡ 5 * e) where
+  pub test-kinds : kindsFrom cellSize cellKind cells 0 c ≡ true → kindsFrom entrySize entryKind entries 0 e ≡ true → Kinds cells entries
+  test-kinds a b =
+      record {
+        ofCells = λ n h. rw zero-add at (kinds-each cellSize cellKind cells 0 c a n (omega arith));
+        ofEntries = λ n h. rw zero-add at (kinds-each entrySize entryKind entries 0 e b n (omega arith));
+      }
+
+  pub cells-test : Kinds cells entries → kindsFrom cellSize cellKind cells 0 c ≡ true
+  cells-test k = each-kinds cellSize cellKind cells 0 c (λ n h. rw zero-add (k .ofCells n (omega arith)))
+
+  pub entries-test : Kinds cells entries → kindsFrom entrySize entryKind entries 0 e ≡ true
+  entries-test k = each-kinds entrySize entryKind entries 0 e (λ n h. rw zero-add (k .ofEntries n (omega arith)))
+
+-- An output's test holds exactly where the output is exact.
+module _ (entries : List ℕ) (p : Pattern) (output : ℕ) where
+  abbrev same-level : ℕ → Bool
+  same-level gap = eqb (highestSet (chain entries (length (p .symbols)) (length (p .symbols)) output) gap) (getD (p .levels) gap 0)
+
+  pub test-exact : exactTest entries (p .levels) (length (p .symbols)) output ≡ true → Exact entries p output
+  unfolding exactTest
+  test-exact e =
+      let t = both (sound entries (length (p .symbols)) output) (allFrom same-level 0 (suc (length (p .symbols)))) e in
+      record {
+        faultless = t .0;
+        levels = λ gap h. eqb-true _ _ (all-each same-level 0 (suc (length (p .symbols))) (t .1) gap (omega arith) (omega arith));
+      }
+
+  pub exact-test : Exact entries p output → exactTest entries (p .levels) (length (p .symbols)) output ≡ true
+  unfolding exactTest
+  exact-test x = rw (x .faultless) (each-all same-level 0 (suc (length (p .symbols))) (λ gap h l. eq-eqb _ _ (x .levels gap (omega arith))))
