@@ -6,7 +6,7 @@ use mathlib.Core.Path.{_≡_, refl, sym, _∙_, ap}
 use native.Mathlib.Omega.{arith}
 use borrow.Author.Tests.{lt-leb, le-leb, eq-eqb, ne-eqb}
 use lib.Dec.{leb, eqb}
-use lib.ListN.{length, getD, take, drop, length-drop, drop-of-length-le}
+use lib.ListN.{length, getD, take, drop, length-drop, drop-of-length-le, List·getD-eq-default}
 use lib.Seq.{take-all, take-nil}
 use Rattle.base.specs.Limits.{cells, entries}
 use Rattle.base.specs.declared.Check.{Check}
@@ -22,9 +22,21 @@ pub number-is : (t : List ℕ) (at : ℕ) → 256 * getD t at 0 + getD t (at + 1
 unfolding numberAt
 number-is t at = refl
 
-pub head-number : (t : List ℕ) (at : ℕ) {a b : ℕ} → a ≡ getD t at 0 → b ≡ getD t (at + 1) 0 → 256 * a + b ≡ numberAt t at
+pub number-past : (t : List ℕ) (at : ℕ) → length t ≤ at → 0 ≡ numberAt t at
 unfolding numberAt
-head-number t at p q = rw (p, q)
+number-past t at h = let k : length t ≤ at + 1 = omega arith in rw (List·getD-eq-default t 0 h, List·getD-eq-default t 0 k)
+
+pub number-by : (t : List ℕ) (at : ℕ) {b : ℕ} → b ≡ getD t (at + 1) 0 → 256 * getD t at 0 + b ≡ numberAt t at
+unfolding numberAt
+number-by t at q = rw q
+
+pub cells-told : (t : List ℕ) {n : ℕ} → n ≡ numberAt t 2 → n ≡ cellCount t
+unfolding cellCount
+cells-told t e = e
+
+pub entries-told : (t : List ℕ) {n : ℕ} → n ≡ numberAt t 4 → n ≡ entryCount t
+unfolding entryCount
+entries-told t e = e
 
 -- ground 9, in the order in which the code asks
 pub short-table : (t : List ℕ) → length t < 6 → Refused TableForm ≡ judgeTable t

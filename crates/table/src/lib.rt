@@ -66,18 +66,28 @@ fn byte_at(bytes: &[u8], at: usize) -> u8
     0
 }
 
+// A number of two bytes, each of them 0 past the end.
+pub fn number_at(bytes: &[u8], at: usize) -> u16
+    ensures { λ r. ⌜ r ≡ numberAt (now (bytes .entry)) at ⌝ }
+{
+    if bytes.len() <= at {
+        return 0;
+    }
+    256 * (bytes[at] as u16) + byte_at(bytes, at + 1) as u16
+}
+
 // How many cells a table's head tells.
 pub fn cell_count(table: &[u8]) -> u16
     ensures { λ r. ⌜ r ≡ cellCount (now (table .entry)) ⌝ }
 {
-    256 * (byte_at(table, 2) as u16) + byte_at(table, 3) as u16
+    number_at(table, 2)
 }
 
 // How many entries a table's head tells.
 pub fn entry_count(table: &[u8]) -> u16
     ensures { λ r. ⌜ r ≡ entryCount (now (table .entry)) ⌝ }
 {
-    256 * (byte_at(table, 4) as u16) + byte_at(table, 5) as u16
+    number_at(table, 4)
 }
 
 // The bytes of a table's cells, as far as they are there.

@@ -1,39 +1,13 @@
 use borrow.Author.Needs.{needs}
-use Rattle.table.specs.Table.{cellCount}
-use Rattle.table.proofs.Laws.{head-number}
+use Rattle.table.proofs.Laws.{cells-told}
 use Rattle.table.proofs.cell_count.Statement.{statement}
 use Rattle.table.proofs.cell_count.Tie as tie
 
-byte-at-requires : tie.Need-byte-at-requires
-byte-at-requires c κs = search needs
-
-cast-result : tie.Need-cast-result
-cast-result c = search needs
-
-mul-result : tie.Need-mul-result
-mul-result c = search needs
-
-byte-at-requires-2 : tie.Need-byte-at-requires-2
-byte-at-requires-2 c κs = search needs
-
-cast-result-2 : tie.Need-cast-result-2
-cast-result-2 c = search needs
-
-add-result : tie.Need-add-result
-add-result c = search needs
+number-at-requires : tie.Need-number-at-requires
+number-at-requires c κs = search needs
 
 returns : tie.Need-returns
-unfolding cellCount
-returns c = head-number _ 2 (c .before .byte-at .ensures) (c .byte-at2 .ensures)
+returns c = cells-told _ (c .number-at .ensures)
 
 pub cell-count-spec : {M : Type 1} → statement M
-cell-count-spec =
-    tie.close
-    (tie.spec
-    byte-at-requires
-    cast-result
-    mul-result
-    byte-at-requires-2
-    cast-result-2
-    add-result
-    returns)
+cell-count-spec = tie.close (tie.spec number-at-requires returns)
