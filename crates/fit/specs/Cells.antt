@@ -1,6 +1,6 @@
 -- First fit: where the cells of a list's paths go. Cells are written into a list of bytes that starts as zeros, 6 bytes a cell;
 -- a cell is free while its symbol byte is 0. `taken` has a mark for each base that a path has.
-use Prim.Native.Nat.{ℕ, zero, suc, _+_, _*_, _-_, _/_, _%_}
+use Prim.Native.Nat.{ℕ, zero, suc, _+_, _*_, _-_}
 use mathlib.Core.Bool.{Bool, true, false, cond, not, _&&_, _||_}
 use mathlib.Core.List.{List, [], _∷_}
 use lib.Dec.{leb, ltb, eqb}
@@ -8,12 +8,9 @@ use lib.ListN.{length, getD, set, take, drop, replicate}
 use Rattle.base.specs.Limits.{symbols, patternLimit, cells}
 use Rattle.liang.specs.Patterns.{Pattern}
 use Rattle.table.specs.Table.{cellKind, cellSize, numberAt}
+unfoldable pub use Rattle.table.specs.Table.{putNumber}
 use Rattle.patterns.specs.Common.{common}
 use Rattle.right.specs.Test.{allFrom, nextIn}
-
--- "Numbers of two bytes have the high byte first."
-unfoldable pub putNumber : ℕ → ℕ → List ℕ → List ℕ
-putNumber at n bytes = set (set bytes at (n / 256)) (at + 1) (n % 256)
 
 unfoldable pub isFree : List ℕ → ℕ → Bool
 isFree bytes n = eqb (getD bytes (cellSize * n + 1) 0) 0

@@ -1,18 +1,18 @@
 -- Laws about the table on bytes: one for each way through the code.
-use Prim.Native.Nat.{ℕ, _+_, _*_, _-_, _≤_, _<_}
+use Prim.Native.Nat.{ℕ, _+_, _*_, _-_, _/_, _%_, _≤_, _<_}
 use mathlib.Core.Bool.{Bool, true, false, cond, not, _&&_}
 use mathlib.Core.List.{List, []}
 use mathlib.Core.Path.{_≡_, refl, sym, _∙_, ap}
 use native.Mathlib.Omega.{arith}
 use borrow.Author.Tests.{lt-leb, le-leb, eq-eqb, ne-eqb}
 use lib.Dec.{leb, eqb}
-use lib.ListN.{length, getD, take, drop, length-drop, drop-of-length-le, List·getD-eq-default}
-use lib.Seq.{take-all, take-nil}
+use lib.ListN.{length, getD, set, take, drop, length-set, length-drop, drop-of-length-le, List·getD-eq-default}
+use lib.Seq.{take-all, take-nil, set-out}
 use Rattle.base.specs.Limits.{cells, entries}
 use Rattle.base.specs.declared.Check.{Check}
 use Rattle.base.specs.declared.Check.the-variants.{Fine, Refused}
 use Rattle.base.specs.declared.Ground.the-variants.{TableForm}
-use Rattle.table.specs.Table.{numberAt, cellCount, entryCount, formed, judgeTable, cellsOf, entriesOf, look, entryAt}
+use Rattle.table.specs.Table.{numberAt, putNumber, cellCount, entryCount, formed, judgeTable, cellsOf, entriesOf, look, entryAt}
 use Rattle.table.specs.declared.Look.{Look}
 use Rattle.table.specs.declared.Look.the-variants.{Hit, Miss}
 use Rattle.table.specs.declared.Entry.{Entry}
@@ -29,6 +29,19 @@ number-past t at h = let k : length t ≤ at + 1 = omega arith in rw (List·getD
 pub number-by : (t : List ℕ) (at : ℕ) {b : ℕ} → b ≡ getD t (at + 1) 0 → 256 * getD t at 0 + b ≡ numberAt t at
 unfolding numberAt
 number-by t at q = rw q
+
+module _ (t : List ℕ) (at n : ℕ) where
+  pub put-past : length t ≤ at → t ≡ putNumber at n t
+  unfolding putNumber
+  put-past h = let k : length t ≤ at + 1 = omega arith in rw (set-out t at (n / 256) h, set-out t (at + 1) (n % 256) k)
+
+  pub put-half : length (set t at (n / 256)) ≤ at + 1 → set t at (n / 256) ≡ putNumber at n t
+  unfolding putNumber
+  put-half h = sym (set-out (set t at (n / 256)) (at + 1) (n % 256) h)
+
+  pub put-both : set (set t at (n / 256)) (at + 1) (n % 256) ≡ putNumber at n t
+  unfolding putNumber
+  put-both = refl
 
 pub cells-told : (t : List ℕ) {n : ℕ} → n ≡ numberAt t 2 → n ≡ cellCount t
 unfolding cellCount

@@ -1,9 +1,9 @@
 -- The packed table as document 01 lays it out on bytes.
-use Prim.Native.Nat.{ℕ, _+_, _*_, _-_}
+use Prim.Native.Nat.{ℕ, _+_, _*_, _-_, _/_, _%_}
 use mathlib.Core.Bool.{Bool, cond, not, _&&_}
 use mathlib.Core.List.{List}
 use lib.Dec.{leb, eqb}
-use lib.ListN.{length, getD, take, drop}
+use lib.ListN.{length, getD, set, take, drop}
 use Rattle.base.specs.Limits.{cells, entries}
 use Rattle.base.specs.Grounds.{refuseIf}
 use Rattle.base.specs.declared.Check.{Check}
@@ -39,6 +39,9 @@ entrySize = 5
 -- "Numbers of two bytes have the high byte first."
 unfoldable pub numberAt : List ℕ → ℕ → ℕ
 numberAt bytes at = 256 * getD bytes at 0 + getD bytes (at + 1) 0
+
+unfoldable pub putNumber : ℕ → ℕ → List ℕ → List ℕ
+putNumber at n bytes = set (set bytes at (n / 256)) (at + 1) (n % 256)
 
 -- "edition 1, cells C (2 bytes), entries E (2 bytes)"
 unfoldable pub cellCount : List ℕ → ℕ

@@ -4,7 +4,7 @@ use base::Ground;
 ghost use mathlib.Core.Path.{_≡_};
 ghost use Prim.Native.Nat.{_+_, _<_};
 ghost use lib.ListN.{length, getD};
-ghost use Rattle.table.specs.Table.{numberAt, cellCount, entryCount, judgeTable, cellsOf, entriesOf, look, entryAt};
+ghost use Rattle.table.specs.Table.{numberAt, putNumber, cellCount, entryCount, judgeTable, cellsOf, entriesOf, look, entryAt};
 
 // What a look at a cell finds.
 pub enum Look {
@@ -74,6 +74,19 @@ pub fn number_at(bytes: &[u8], at: usize) -> u16
         return 0;
     }
     256 * (bytes[at] as u16) + byte_at(bytes, at + 1) as u16
+}
+
+// A number of two bytes written where there is room for them.
+pub fn put_number(bytes: &mut [u8], at: usize, n: u16)
+    ensures { λ _. ⌜ now (bytes .exit) ≡ putNumber at n (now (bytes .entry)) ⌝ }
+{
+    if bytes.len() <= at {
+        return;
+    }
+    bytes[at] = (n / 256) as u8;
+    if at + 1 < bytes.len() {
+        bytes[at + 1] = (n % 256) as u8;
+    }
 }
 
 // How many cells a table's head tells.

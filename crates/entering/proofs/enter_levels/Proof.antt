@@ -1,0 +1,84 @@
+use borrow.Author.Needs.{needs}
+use Prim.Native.Nat.{suc, _≤_, _-_}
+use mathlib.Core.Path.{_≡_, refl, sym, _∙_, ap, subst}
+use native.Mathlib.Omega.{arith}
+use lib.ListN.{length}
+use Rattle.liang.specs.Patterns.{levelsFrom}
+use Rattle.fit.specs.Entries as fit
+use Rattle.entering.specs.Post.{asEntries, countOf}
+use Rattle.entering.proofs.Laws.{levels-start, levels-over, levels-skip, levels-enter, levels-end}
+use Rattle.entering.proofs.enter_levels.Statement.{statement}
+use Rattle.entering.proofs.enter_levels.Tie as tie
+
+abbrev Inv-loop : tie.InvT-loop
+Inv-loop bytes₀ count line m made₀ last₀ d₀ bytes made last d = (d ≤ suc m) × (m ≤ 16) × (made ≤ 2048) × (length bytes ≡ 10240) × (length bytes₀ ≡ 10240) × (fit.enterLevels (levelsFrom 0 line) m 0 (suc m) (fit.Made bytes₀ count 0) ≡ fit.enterLevels (levelsFrom 0 line) m d (suc m - d) (fit.Made bytes made last))
+
+abbrev μ-loop : tie.MeasureT-loop
+μ-loop bytes₀ count line m made₀ last₀ d₀ bytes made last d = suc m - d
+
+loop-holds : tie.Need-loop-holds Inv-loop μ-loop
+loop-holds c = (search needs, search needs, search needs, search needs, search needs, levels-start _ _ _)
+
+cast-level-at : tie.Need-cast-level-at Inv-loop μ-loop
+cast-level-at c = search needs
+
+level-at-requires : tie.Need-level-at-requires Inv-loop μ-loop
+level-at-requires c κs = search needs
+
+add-d : tie.Need-add-d Inv-loop μ-loop
+add-d c = search needs
+
+enter-requires : tie.Need-enter-requires Inv-loop μ-loop
+enter-requires c κs = search needs
+
+enum-known-step : tie.Need-enum-known-step Inv-loop μ-loop
+enum-known-step c = search needs
+
+enum-told : tie.Need-enum-told Inv-loop μ-loop
+enum-told c = search needs
+
+same-length : tie.Need-same-length Inv-loop μ-loop
+same-length c = c .before .before .before .before .enter .kept .0 ∙ c .before .before .before .before .before .before .before .before .before .loop .inv .3 ∙ sym (c .before .before .before .before .before .before .before .before .before .loop .inv .4)
+
+returns : tie.Need-returns Inv-loop μ-loop
+returns c = (c .before .before .before .before .before .before .before .before .before .loop .inv .5 ∙ levels-enter _ _ _ _ (c .before .before .before .before .before .before .before .before .loop-test .taken) (c .before .before .before .before .before .before .before .level-at .ensures) (c .before .before .before .before .before .before .if1 .taken) (c .before .before .before .before .enter .ensures .0 ∙ ap (asEntries _) (c .enum-told .given .1)) ∙ levels-over _ _ _ _, search needs)
+
+loop-less : tie.Need-loop-less Inv-loop μ-loop
+loop-less c = search needs
+
+loop-again : tie.Need-loop-again Inv-loop μ-loop
+loop-again c = (search needs, search needs, subst (λ e. countOf e ≤ 2048) (c .before .step .given .1) (c .before .before .before .before .before .enter .ensures .1), c .before .before .before .before .before .enter .kept .0 ∙ c .before .before .before .before .before .before .before .before .before .before .loop .inv .3, search needs, c .before .before .before .before .before .before .before .before .before .before .loop .inv .5 ∙ levels-enter _ _ _ _ (c .before .before .before .before .before .before .before .before .before .loop-test .taken) (c .before .before .before .before .before .before .before .before .level-at .ensures) (c .before .before .before .before .before .before .before .if1 .taken) (c .before .before .before .before .before .enter .ensures .0 ∙ ap (asEntries _) (c .before .step .given .1)))
+
+loop-less-2 : tie.Need-loop-less-2 Inv-loop μ-loop
+loop-less-2 c = search needs
+
+loop-again-2 : tie.Need-loop-again-2 Inv-loop μ-loop
+loop-again-2 c = (search needs, search needs, search needs, search needs, search needs, c .before .before .before .loop .inv .5 ∙ levels-skip _ _ _ _ (c .before .before .loop-test .taken) (c .before .level-at .ensures) (c .if1 .left))
+
+same-length-2 : tie.Need-same-length-2 Inv-loop μ-loop
+same-length-2 c = c .before .loop .inv .3 ∙ sym (c .before .loop .inv .4)
+
+returns-2 : tie.Need-returns-2 Inv-loop μ-loop
+returns-2 c = (c .before .loop .inv .5 ∙ levels-end _ _ _ _ (c .loop-test .left), search needs)
+
+pub enter-levels-spec : {M : Type 1} → statement M
+enter-levels-spec =
+    tie.close
+    (tie.spec
+    Inv-loop
+    μ-loop
+    loop-holds
+    cast-level-at
+    level-at-requires
+    add-d
+    enter-requires
+    enum-known-step
+    enum-told
+    same-length
+    returns
+    loop-less
+    loop-again
+    loop-less-2
+    loop-again-2
+    same-length-2
+    returns-2)
