@@ -1,0 +1,41 @@
+-- The packer: its grounds in order, its answer, and what it leaves in the room.
+use Prim.Native.Nat.{ℕ, _-_}
+use mathlib.Core.List.{List, _++_}
+use mathlib.Core.Path.{_≡_}
+use lib.Dec.{ltb}
+use lib.ListN.{length, drop, replicate}
+use Rattle.base.specs.Limits.{packRoom}
+use Rattle.base.specs.Grounds.{first, refuseIf}
+use Rattle.base.specs.declared.Check.{Check}
+use Rattle.base.specs.declared.Check.the-variants.{Fine, Refused}
+use Rattle.base.specs.declared.Ground.the-variants.{PackRoomShort, NoFit}
+use Rattle.lists.specs.Lists.{judgePatterns}
+use Rattle.liang.specs.Patterns.{patternsOf}
+use Rattle.fit.specs.Table.{Fit, NoRoom, Packed, firstFit}
+use Rattle.packer.specs.declared.Packing.{Packing}
+use Rattle.packer.specs.declared.Packing.the-variants as packings
+
+-- "packer 10, 8, 7, 11": the grounds before the layout is made.
+unfoldable pub judgePack : List ℕ → ℕ → Check
+judgePack text size = first (refuseIf (ltb size packRoom) PackRoomShort) (judgePatterns text)
+
+-- "A packing tells its length"; 11 where first fit needs C over 8,192 or E over 2,048.
+abbrev pub packing : Check → Fit → Packing
+packing (Refused g) fit = packings.Refused g
+packing Fine NoRoom = packings.Refused NoFit
+packing Fine (Packed table) = packings.Done (length table)
+
+-- A room that begins with some bytes: "the room beyond it up to byte 59,397 is zero, later bytes untouched".
+unfoldable pub packedRoom : List ℕ → List ℕ → List ℕ
+packedRoom bytes room = bytes ++ (replicate (packRoom - length bytes) 0 ++ drop packRoom room)
+
+-- "Refusals leave lent memory untouched, except 11, which sets the pack room's first 59,398 bytes to zero."
+abbrev pub packedAfter : Check → Fit → List ℕ → List ℕ
+packedAfter (Refused g) fit room = room
+packedAfter Fine NoRoom room = packedRoom mathlib.Core.List.[] room
+packedAfter Fine (Packed table) room = packedRoom table room
+
+-- What the packer returns and leaves.
+pub record Packs (text room : List ℕ) (r : Packing) (after : List ℕ) : Type 0 where
+  pub answered : r ≡ packing (judgePack text (length room)) (firstFit (patternsOf text))
+  pub memory : after ≡ packedAfter (judgePack text (length room)) (firstFit (patternsOf text)) room
