@@ -3,7 +3,6 @@ use Prim.Native.Nat.{ℕ, zero, suc, _+_, _-_, _≤_, _<_}
 use mathlib.Core.Bool.{Bool, true, false, cond, not, _&&_, _||_, Bool·beq}
 use mathlib.Core.List.{List, [], _∷_, map}
 use mathlib.Core.Path.{_≡_, refl, sym, _∙_, ap}
-use native.Mathlib.Numerals.{add-one}
 use native.Mathlib.Omega.{arith}
 use borrow.Author.Tests.{lt-leb, le-leb, lt-ltb, le-ltb, eq-eqb, ne-eqb, ltb-true, eqb-true, eqb-false, leb-true}
 use lib.Dec.{leb, ltb, eqb}
@@ -25,7 +24,7 @@ use Rattle.lists.proofs.Theorems.{Passed, passed}
 use Rattle.liang.specs.Patterns.{Pattern, levelsFrom, patternOf, patternsOf}
 use Rattle.patterns.specs.Common.{common}
 use Rattle.patterns.specs.Next.{nextMask}
-use Rattle.patterns.proofs.Next.{mask-at}
+use Rattle.patterns.proofs.Next.{mask-says}
 use Rattle.table.specs.declared.Look.{Look}
 use Rattle.table.specs.declared.Look.the-variants.{Hit, Miss}
 use Rattle.table.specs.Table.{cellKind, entryKind, cellSize, entrySize, cellCount, entryCount, cellsOf, entriesOf, entryAt, look}
@@ -35,24 +34,9 @@ use Rattle.table.proofs.Laws.{entry-none}
 use Rattle.walk.specs.Chain.{chain}
 use Rattle.walk.specs.Raise.{highestSet, raiseAll}
 use Rattle.walk.proofs.Raised.{raised-at, chain-moved}
+use Rattle.right.proofs.All.{all-same}
 use Rattle.right.specs.Right.{soundStep, soundFrom, sound}
-use Rattle.right.specs.Test.{allFrom, kindsFrom, child, nextIn, childrenRight, exactTest, nodeRight, followStep, follow, patternsRight, rightTest}
-
--- a test of all numbers below a total, from k on
-module _ (test : ℕ → Bool) (k total : ℕ) where
-  all-turn : k < total → allFrom test k (total - k) ≡ (test k && allFrom test (k + 1) (total - (k + 1)))
-  unfolding allFrom
-  all-turn h = let e : total - k ≡ suc (total - (k + 1)) = omega arith in rw (e, add-one)
-
-  pub all-pass : k < total → test k ≡ true → allFrom test k (total - k) ≡ allFrom test (k + 1) (total - (k + 1))
-  all-pass h t = all-turn h ∙ rw t
-
-  pub all-fail : k < total → test k ≡ false → allFrom test k (total - k) ≡ false
-  all-fail h t = all-turn h ∙ rw t
-
-  pub all-end : total ≤ k → allFrom test k (total - k) ≡ true
-  unfolding allFrom
-  all-end h = let e : total - k ≡ 0 = omega arith in rw e
+use Rattle.right.specs.Test.{allFrom, kindsFrom, child, childrenRight, exactTest, nodeRight, followStep, follow, patternsRight, rightTest}
 
 -- the kinds of records
 module _ (size kind : ℕ) (bytes : List ℕ) (at n count : ℕ) where
@@ -134,11 +118,6 @@ module _ (entries : List ℕ) (m k : ℕ) (z : k ≡ 0 → ⊥) {e : Entry} (p :
     sound-on h i f b r = r ∙ sym (sound-turn entries m k z ∙ rw (← p, q, le-leb 1 l h, le-leb l levelLimit i, le-leb d m f, lt-ltb next k b))
 
 -- an output's levels, as a room has them
-all-same : (f g : ℕ → Bool) (k n : ℕ) → ((i : ℕ) → k ≤ i → i < k + n → f i ≡ g i) → allFrom f k n ≡ allFrom g k n
-unfolding allFrom
-all-same f g k zero h = refl
-all-same f g k (suc n) h = rw (h k (omega arith) (omega arith), all-same f g (suc k) n (λ i a b. h i (omega arith) (omega arith)))
-
 module _ (entries levels : List ℕ) (m output : ℕ) (short : m ≤ 16) where
   level-byte : (gap : ℕ) → gap < suc m → getD (raiseAll (m + 2) (chain entries m (m + 2) output) (replicate 18 0)) (gap + 1) 0 ≡ highestSet (chain entries m m output) gap
   unfolding inner
@@ -161,9 +140,6 @@ module _ (entries levels : List ℕ) (m output : ℕ) (short : m ≤ 16) where
 
 pub kinds-start : (size kind : ℕ) (bytes : List ℕ) (count : ℕ) → kindsFrom size kind bytes 0 count ≡ kindsFrom size kind bytes 0 (count - 0)
 kinds-start size kind bytes count = let e : count - 0 ≡ count = omega arith in rw e
-
-pub all-start : (test : ℕ → Bool) (n : ℕ) → allFrom test 0 n ≡ allFrom test 0 (n - 0)
-all-start test n = let e : n - 0 ≡ n = omega arith in rw e
 
 -- how the table goes on
 module _ (cells : List ℕ) (leaf : Bool) (base s : ℕ) where
@@ -196,17 +172,7 @@ child-agrees cells leaf base s wanted p q = q ∙ ap (λ (b : Bool). Bool·beq b
 pub children-masked : (cells : List ℕ) (leaf : Bool) (base m : ℕ) (own : List ℕ) (ps : List Pattern) (mask : List ℕ) {r : Bool} → mask ≡ nextMask m own ps (replicate 28 0)
     → r ≡ allFrom (λ s. Bool·beq (child cells leaf base s) (eqb (getD mask s 0) 1)) 1 symbols → r ≡ childrenRight cells leaf base m own ps
 unfolding childrenRight
-children-masked cells leaf base m own ps mask p q = q ∙ all-same _ _ 1 symbols (λ s a b. ap (Bool·beq (child cells leaf base s)) (marked s (omega (arith, b))))
-  where
-    flag : (z : Bool) → eqb (cond z 1 0) 1 ≡ z
-    flag true = refl
-    flag false = refl
-
-    marked : (s : ℕ) → s < 28 → eqb (getD mask s 0) 1 ≡ nextIn m own ps s
-    marked s h =
-        ap (λ (l : List ℕ). eqb (getD l s 0) 1) p
-        ∙ ap (λ (n : ℕ). eqb n 1) (mask-at m own ps (replicate 28 0) s h ∙ ap (cond (nextIn m own ps s) 1) (getD-replicate {A = ℕ} 28 s 0 0 h))
-        ∙ flag (nextIn m own ps s)
+children-masked cells leaf base m own ps mask p q = q ∙ all-same _ _ 1 symbols (λ s a b. ap (Bool·beq (child cells leaf base s)) (mask-says m own ps p s (omega (arith, b))))
 
 -- one beginning of a line
 module _ (cells entries own : List ℕ) (ps : List Pattern) (m : ℕ) (whole : Bool) (link output : ℕ) {a : Bool} (p : a ≡ cond whole (exactTest entries (levelsFrom 0 own) m output) (eqb output 0)) where

@@ -6,7 +6,7 @@ use mathlib.Core.Path.{_≡_, refl, sym, _∙_, ap}
 use native.Mathlib.Omega.{arith}
 use borrow.Author.Tests.{lt-leb, le-leb, eqb-true, eqb-false}
 use lib.Dec.{leb, eqb}
-use lib.ListN.{length, getD, take, drop, set, length-set, drop-of-length-le}
+use lib.ListN.{length, getD, take, drop, set, length-set, replicate, getD-replicate, drop-of-length-le}
 use lib.Seq.{getD-set-same, getD-set-other}
 use Rattle.words.specs.Symbols.{symbolsOf}
 use Rattle.lines.specs.Lines.{cut, lineLength}
@@ -62,3 +62,14 @@ mask-at m own (p ∷ ps) mask s h =
     go true true e next = next ∙ once (nextIn m own ps s) _ (here (eqb-true (getD (p .symbols) m 0) s e))
     go true false e next = next ∙ ap (cond (nextIn m own ps s) 1) (getD-set-other mask (getD (p .symbols) m 0) s 1 0 (λ z. eqb-false (getD (p .symbols) m 0) s e (sym z)))
     go false b e next = refl
+
+-- a clear mask, marked, says how the patterns go on
+pub mask-says : (m : ℕ) (own : List ℕ) (ps : List Pattern) {mask : List ℕ} → mask ≡ nextMask m own ps (replicate 28 0) → (s : ℕ) → s < 28 → eqb (getD mask s 0) 1 ≡ nextIn m own ps s
+mask-says m own ps p s h =
+    ap (λ (l : List ℕ). eqb (getD l s 0) 1) p
+    ∙ ap (λ (n : ℕ). eqb n 1) (mask-at m own ps (replicate 28 0) s h ∙ ap (cond (nextIn m own ps s) 1) (getD-replicate {A = ℕ} 28 s 0 0 h))
+    ∙ flag (nextIn m own ps s)
+  where
+    flag : (z : Bool) → eqb (cond z 1 0) 1 ≡ z
+    flag true = refl
+    flag false = refl

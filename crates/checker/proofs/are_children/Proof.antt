@@ -8,7 +8,8 @@ use lib.Dec.{eqb}
 use lib.ListN.{length, getD}
 use Rattle.base.specs.Limits.{symbols}
 use Rattle.right.specs.Test.{allFrom, child}
-use Rattle.checker.proofs.Laws.{all-pass, all-fail, all-end, child-agrees}
+use Rattle.right.proofs.All.{all-pass, all-fail, all-end}
+use Rattle.checker.proofs.Laws.{child-agrees}
 use Rattle.checker.proofs.are_children.Statement.{statement}
 use Rattle.checker.proofs.are_children.Tie as tie
 

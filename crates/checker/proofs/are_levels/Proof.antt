@@ -7,8 +7,7 @@ use lib.Dec.{eqb}
 use lib.ListN.{length, getD}
 use Rattle.liang.specs.Patterns.{levelsFrom}
 use Rattle.right.specs.Test.{allFrom}
-use Rattle.checker.proofs.Laws.{all-start, all-pass, all-fail, all-end}
-use Rattle.checker.proofs.Laws.{all-pass, all-fail, all-end}
+use Rattle.right.proofs.All.{all-start, all-pass, all-fail, all-end}
 use Rattle.checker.proofs.are_levels.Statement.{statement}
 use Rattle.checker.proofs.are_levels.Tie as tie
 

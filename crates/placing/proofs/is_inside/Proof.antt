@@ -1,0 +1,65 @@
+use borrow.Author.Needs.{needs}
+use Prim.Native.Nat.{_≤_, _<_, _+_, _-_}
+use mathlib.Core.Bool.{not, _||_}
+use mathlib.Core.Path.{_≡_, sym, _∙_}
+use native.Mathlib.Omega.{arith}
+use borrow.Author.Tests.{not-true, not-false}
+use lib.Dec.{ltb}
+use lib.ListN.{length}
+use Rattle.base.specs.Limits.{symbols}
+use Rattle.right.specs.Test.{allFrom}
+use Rattle.right.proofs.All.{all-pass, all-fail, all-end}
+use Rattle.fit.specs.Cells.{inside}
+use Rattle.placing.specs.Post.{marked}
+use Rattle.placing.proofs.Laws.{inside-start}
+use Rattle.placing.proofs.is_inside.Statement.{statement}
+use Rattle.placing.proofs.is_inside.Tie as tie
+
+abbrev Inv-loop : tie.InvT-loop
+Inv-loop mask base symbol₀ symbol = (symbol ≤ 28) × (symbols < length mask) × (inside (marked mask) base ≡ allFrom (λ s. not (marked mask s) || ltb (base + s) 8192) symbol (28 - symbol))
+
+abbrev μ-loop : tie.MeasureT-loop
+μ-loop mask base symbol₀ symbol = 28 - symbol
+
+loop-holds : tie.Need-loop-holds Inv-loop μ-loop
+loop-holds c = (search needs, search needs, inside-start _ _)
+
+cast-is-below : tie.Need-cast-is-below Inv-loop μ-loop
+cast-is-below c = search needs
+
+shared-slice-read-is-below : tie.Need-shared-slice-read-is-below Inv-loop μ-loop
+shared-slice-read-is-below c = search needs
+
+is-below-requires : tie.Need-is-below-requires Inv-loop μ-loop
+is-below-requires c κs = search needs
+
+returns : tie.Need-returns Inv-loop μ-loop
+returns c = sym (c .before .before .before .before .loop .inv .2 ∙ all-fail _ _ 28 (omega arith) (sym (c .before .is-below .ensures) ∙ not-true _ (c .if1 .taken)))
+
+add-symbol : tie.Need-add-symbol Inv-loop μ-loop
+add-symbol c = search needs
+
+loop-less : tie.Need-loop-less Inv-loop μ-loop
+loop-less c = search needs
+
+loop-again : tie.Need-loop-again Inv-loop μ-loop
+loop-again c = (search needs, search needs, c .before .before .before .before .loop .inv .2 ∙ all-pass _ _ 28 (omega arith) (sym (c .before .is-below .ensures) ∙ not-false _ (c .if1 .left)))
+
+returns-2 : tie.Need-returns-2 Inv-loop μ-loop
+returns-2 c = sym (c .before .loop .inv .2 ∙ all-end _ _ 28 (omega arith))
+
+pub is-inside-spec : {M : Type 1} → statement M
+is-inside-spec =
+    tie.close
+    (tie.spec
+    Inv-loop
+    μ-loop
+    loop-holds
+    cast-is-below
+    shared-slice-read-is-below
+    is-below-requires
+    returns
+    add-symbol
+    loop-less
+    loop-again
+    returns-2)

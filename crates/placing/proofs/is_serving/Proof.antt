@@ -1,0 +1,19 @@
+use borrow.Author.Needs.{needs}
+use Rattle.placing.proofs.Laws.{serves-taken, serves-free}
+use Rattle.placing.proofs.is_serving.Statement.{statement}
+use Rattle.placing.proofs.is_serving.Tie as tie
+
+shared-slice-read-if1 : tie.Need-shared-slice-read-if1
+shared-slice-read-if1 c = search needs
+
+returns : tie.Need-returns
+returns c = serves-taken (c .before .before .before .before .before .args .cells .now) (c .before .before .before .before .before .args .taken .now) _ _ (c .if1 .taken)
+
+are-usable-requires : tie.Need-are-usable-requires
+are-usable-requires c κs = search needs
+
+returns-2 : tie.Need-returns-2
+returns-2 c = serves-free (c .before .before .before .before .before .before .args .cells .now) (c .before .before .before .before .before .before .args .taken .now) _ _ (c .before .if1 .left) (c .are-usable .ensures)
+
+pub is-serving-spec : {M : Type 1} → statement M
+is-serving-spec = tie.close (tie.spec shared-slice-read-if1 returns are-usable-requires returns-2)

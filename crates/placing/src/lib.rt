@@ -1,0 +1,277 @@
+// First fit's placing: the cells of a list's paths, in lent rooms.
+ghost use mathlib.Core.Bool.{not, _||_};
+ghost use mathlib.Core.List.{[], map};
+ghost use mathlib.Core.Path.{_≡_};
+ghost use Prim.Native.Nat.{_+_, _-_, _≤_, _<_};
+ghost use lib.Dec.{ltb, eqb};
+ghost use lib.ListN.{length, drop, take, set};
+ghost use Rattle.base.specs.Limits.{symbols, cells};
+ghost use Rattle.words.specs.Symbols.{symbolsOf};
+ghost use Rattle.lines.specs.Lines.{cut};
+ghost use Rattle.liang.specs.Patterns.{patternOf, patternsOf};
+ghost use Rattle.right.specs.Test.{allFrom};
+ghost use Rattle.fit.specs.Cells.{Fits, putNumber, isFree, serves, smallest, baseFor, inside, putCell, putCells, cellOf, putLink, place, opens, placeLength, placeLengths};
+ghost use Rattle.placing.specs.Post.{marked, placeLine, Sized, Placed};
+
+// Is the cell numbered base + symbol free?
+fn is_free(cells: &[u8], base: u16, symbol: u8) -> bool
+    ensures { λ r. ⌜ r ≡ isFree (now (cells .entry)) (base + symbol) ⌝ }
+{
+    let at = 6 * (base as usize + symbol as usize) + 1;
+    if cells.len() <= at {
+        return true;
+    }
+    cells[at] == 0
+}
+
+// May a symbol with this mark have the cell numbered base + symbol?
+fn is_usable(cells: &[u8], base: u16, symbol: u8, mark: u8) -> bool
+    ensures { λ r. ⌜ r ≡ (not (eqb mark 1) || isFree (now (cells .entry)) (base + symbol)) ⌝ }
+{
+    if mark != 1 {
+        return true;
+    }
+    is_free(cells, base, symbol)
+}
+
+// Are all cells free that the marked symbols need at a base?
+fn are_usable(cells: &[u8], mask: &[u8], base: u16) -> bool
+    requires { ⌜ symbols < length (now mask) ⌝ }
+    ensures { λ r. ⌜ r ≡ allFrom (λ s. not (marked (now (mask .entry)) s) || isFree (now (cells .entry)) (base + s)) 1 symbols ⌝ }
+{
+    let mut symbol: u8 = 1;
+    while symbol <= base::SYMBOLS {
+        if !is_usable(cells, base, symbol, mask[symbol as usize]) {
+            return false;
+        }
+        symbol += 1;
+    }
+    true
+}
+
+// Does a base serve: no path has it, and the cells it needs are free?
+fn is_serving(cells: &[u8], taken: &[u8], mask: &[u8], base: u16) -> bool
+    requires { ⌜ (symbols < length (now mask)) × (base < length (now taken)) ⌝ }
+    ensures { λ r. ⌜ r ≡ serves (now (cells .entry)) (now (taken .entry)) (marked (now (mask .entry))) base ⌝ }
+{
+    if taken[base as usize] != 0 {
+        return false;
+    }
+    are_usable(cells, mask, base)
+}
+
+// The smallest base from 1 up that serves, or 8,192.
+fn find_base(cells: &[u8], taken: &[u8], mask: &[u8]) -> u16
+    requires { ⌜ (symbols < length (now mask)) × (length (now taken) ≡ 8192) ⌝ }
+    ensures { λ r. ⌜ r ≡ smallest (serves (now (cells .entry)) (now (taken .entry)) (marked (now (mask .entry)))) 1 (8192 - 1) ⌝ }
+{
+    let mut base: u16 = 1;
+    while base < 8192 {
+        if is_serving(cells, taken, mask, base) {
+            return base;
+        }
+        base += 1;
+    }
+    base
+}
+
+// May a symbol with this mark have a cell numbered base + symbol at all?
+fn is_below(base: u16, symbol: u8, mark: u8) -> bool
+    ensures { λ r. ⌜ r ≡ (not (eqb mark 1) || ltb (base + symbol) cells) ⌝ }
+{
+    if mark != 1 {
+        return true;
+    }
+    base as usize + (symbol as usize) < base::CELLS
+}
+
+// Are all cells that the marked symbols need at a base below 8,192?
+fn is_inside(mask: &[u8], base: u16) -> bool
+    requires { ⌜ symbols < length (now mask) ⌝ }
+    ensures { λ r. ⌜ r ≡ inside (marked (now (mask .entry))) base ⌝ }
+{
+    let mut symbol: u8 = 1;
+    while symbol <= base::SYMBOLS {
+        if !is_below(base, symbol, mask[symbol as usize]) {
+            return false;
+        }
+        symbol += 1;
+    }
+    true
+}
+
+// A cell's kind and symbol, where there is such a cell.
+fn put_cell(cells: &mut [u8], n: usize, symbol: u8)
+    requires { ⌜ (length (now cells) ≡ 49152) × (n < 65536 + 256) ⌝ }
+    ensures { λ _. ⌜ now (cells .exit) ≡ putCell n symbol (now (cells .entry)) ⌝ }
+{
+    let at = 6 * n;
+    if at < cells.len() {
+        cells[at] = 2;
+        cells[at + 1] = symbol;
+    }
+}
+
+// The cells of the marked symbols at a base.
+fn put_cells(cells: &mut [u8], mask: &[u8], base: u16)
+    requires { ⌜ (length (now cells) ≡ 49152) × (symbols < length (now mask)) ⌝ }
+    ensures { λ _. ⌜ now (cells .exit) ≡ putCells (marked (now (mask .entry))) base 1 symbols (now (cells .entry)) ⌝ }
+{
+    let mut symbol: u8 = 1;
+    while symbol <= base::SYMBOLS {
+        let s = symbol;
+        symbol += 1;
+        if mask[s as usize] == 1 {
+            put_cell(cells, base as usize + s as usize, s);
+        }
+    }
+}
+
+// The number of the cell that the first m symbols of a line end in.
+pub fn cell_of(cells: &[u8], own: &[u8], m: usize) -> usize
+    requires { ⌜ (0 < m) × (m ≤ length (symbolsOf (now own))) ⌝ }
+    ensures { λ r. ⌜ r ≡ cellOf (now (cells .entry)) 0 (take m (symbolsOf (now (own .entry)))) ⌝ }
+    ensures { λ r. ⌜ r < 65536 + 256 ⌝ }
+{
+    let mut base: u16 = 0;
+    let mut i: usize = 0;
+    while i + 1 < m {
+        let n = base as usize + patterns::symbol_at(own, i) as usize;
+        base = table::number_at(cells, 6 * n + 2);
+        i += 1;
+    }
+    base as usize + patterns::symbol_at(own, i) as usize
+}
+
+// A number of two bytes, where there is room for it.
+pub fn put_number(bytes: &mut [u8], at: usize, n: u16)
+    requires { ⌜ at + 1 < length (now bytes) ⌝ }
+    ensures { λ _. ⌜ now (bytes .exit) ≡ putNumber at n (now (bytes .entry)) ⌝ }
+{
+    bytes[at] = (n / 256 % 256) as u8;
+    bytes[at + 1] = (n % 256) as u8;
+}
+
+// A path's base as the link of its last cell, where there is such a cell. The root has none.
+fn put_link(cells: &mut [u8], own: &[u8], m: usize, base: u16)
+    requires { ⌜ (length (now cells) ≡ 49152) × (m ≤ length (symbolsOf (now own))) ⌝ }
+    ensures { λ _. ⌜ now (cells .exit) ≡ putLink (take m (symbolsOf (now (own .entry)))) base (now (cells .entry)) ⌝ }
+{
+    if m == 0 {
+        return;
+    }
+    let at = 6 * cell_of(cells, own, m) + 2;
+    if at < cells.len() {
+        put_number(cells, at, base);
+    }
+}
+
+// The base that a path of m symbols gets.
+fn base_for(m: usize, cells: &[u8], taken: &[u8], mask: &[u8]) -> u16
+    requires { ⌜ (symbols < length (now mask)) × (length (now taken) ≡ 8192) ⌝ }
+    ensures { λ r. ⌜ r ≡ baseFor m (now (cells .entry)) (now (taken .entry)) (marked (now (mask .entry))) ⌝ }
+{
+    if m == 0 {
+        return 0;
+    }
+    find_base(cells, taken, mask)
+}
+
+// A mark that a base is taken, where there is such a base.
+fn take_base(taken: &mut [u8], base: u16)
+    ensures { λ _. ⌜ now (taken .exit) ≡ set (now (taken .entry)) base 1 ⌝ }
+{
+    let at = base as usize;
+    if at < taken.len() {
+        taken[at] = 1;
+    }
+}
+
+// The path of the first m symbols of own gets its base; the patterns are read from a place of the text on.
+pub fn place_path(
+    cells: &mut [u8],
+    taken: &mut [u8],
+    own: &[u8],
+    m: usize,
+    text: &[u8],
+    at: usize,
+) -> bool
+    requires { ⌜ Sized (now cells) (now taken) × (m ≤ length (symbolsOf (now own))) ⌝ }
+    ensures { λ r. ⌜ Placed (place m (symbolsOf (now (own .entry))) (map patternOf (cut (drop at (now (text .entry))))) (Fits (now (cells .entry)) (now (taken .entry)))) r (now (cells .exit)) (now (taken .exit)) ⌝ }
+{
+    let mut mask = [0u8; 28];
+    patterns::mark_next(own, m, text, at, &mut mask);
+    let base = base_for(m, cells, taken, &mask);
+    if !is_inside(&mask, base) {
+        return false;
+    }
+    put_cells(cells, &mask, base);
+    put_link(cells, own, m, base);
+    take_base(taken, base);
+    true
+}
+
+// Does a line go on behind its first m symbols where the one above it does not behind the same?
+fn is_opening(m: usize, above: &[u8], own: &[u8]) -> bool
+    ensures { λ r. ⌜ r ≡ opens m (symbolsOf (now (above .entry))) (symbolsOf (now (own .entry))) ⌝ }
+{
+    if patterns::symbol_count(own) <= m {
+        return false;
+    }
+    if patterns::shared(above, own) < m {
+        return true;
+    }
+    patterns::symbol_count(above) <= m
+}
+
+// A line's path of m symbols is placed where the line opens it.
+fn place_line(
+    cells: &mut [u8],
+    taken: &mut [u8],
+    m: usize,
+    above: &[u8],
+    own: &[u8],
+    text: &[u8],
+    at: usize,
+) -> bool
+    requires { ⌜ Sized (now cells) (now taken) ⌝ }
+    ensures { λ r. ⌜ Placed (placeLine m (symbolsOf (now (above .entry))) (symbolsOf (now (own .entry))) (map patternOf (cut (drop at (now (text .entry))))) (Fits (now (cells .entry)) (now (taken .entry)))) r (now (cells .exit)) (now (taken .exit)) ⌝ }
+{
+    if !is_opening(m, above, own) {
+        return true;
+    }
+    place_path(cells, taken, own, m, text, at)
+}
+
+// All paths of m symbols, in the text's order.
+fn place_length(cells: &mut [u8], taken: &mut [u8], m: usize, text: &[u8]) -> bool
+    requires { ⌜ Sized (now cells) (now taken) ⌝ }
+    ensures { λ r. ⌜ Placed (placeLength m [] (patternsOf (now (text .entry))) (Fits (now (cells .entry)) (now (taken .entry)))) r (now (cells .exit)) (now (taken .exit)) ⌝ }
+{
+    let mut above = 0;
+    let mut at = 0;
+    while at < text.len() {
+        let end = lines::line_end(text, at);
+        if !place_line(cells, taken, m, &text[above..at], &text[at..end], text, at) {
+            return false;
+        }
+        above = at;
+        at = end;
+    }
+    true
+}
+
+// All paths of a text, by length.
+pub fn place_all(cells: &mut [u8], taken: &mut [u8], text: &[u8]) -> bool
+    requires { ⌜ Sized (now cells) (now taken) ⌝ }
+    ensures { λ r. ⌜ Placed (placeLengths 0 16 (patternsOf (now (text .entry))) (Fits (now (cells .entry)) (now (taken .entry)))) r (now (cells .exit)) (now (taken .exit)) ⌝ }
+{
+    let mut m: usize = 0;
+    while m < base::PATTERN_LIMIT {
+        if !place_length(cells, taken, m, text) {
+            return false;
+        }
+        m += 1;
+    }
+    true
+}

@@ -1,0 +1,32 @@
+-- Laws about a test of numbers in turn, `allFrom`: one for each way through a loop.
+use Prim.Native.Nat.{ℕ, zero, suc, _+_, _-_, _≤_, _<_}
+use mathlib.Core.Bool.{Bool, true, false, _&&_}
+use mathlib.Core.Path.{_≡_, refl, _∙_}
+use native.Mathlib.Numerals.{add-one}
+use native.Mathlib.Omega.{arith}
+use Rattle.right.specs.Test.{allFrom}
+
+pub all-start : (test : ℕ → Bool) (n : ℕ) → allFrom test 0 n ≡ allFrom test 0 (n - 0)
+all-start test n = let e : n - 0 ≡ n = omega arith in rw e
+
+-- a test of all numbers below a total, from k on
+module _ (test : ℕ → Bool) (k total : ℕ) where
+  all-turn : k < total → allFrom test k (total - k) ≡ (test k && allFrom test (k + 1) (total - (k + 1)))
+  unfolding allFrom
+  all-turn h = let e : total - k ≡ suc (total - (k + 1)) = omega arith in rw (e, add-one)
+
+  pub all-pass : k < total → test k ≡ true → allFrom test k (total - k) ≡ allFrom test (k + 1) (total - (k + 1))
+  all-pass h t = all-turn h ∙ rw t
+
+  pub all-fail : k < total → test k ≡ false → allFrom test k (total - k) ≡ false
+  all-fail h t = all-turn h ∙ rw t
+
+  pub all-end : total ≤ k → allFrom test k (total - k) ≡ true
+  unfolding allFrom
+  all-end h = let e : total - k ≡ 0 = omega arith in rw e
+
+-- tests that agree on the numbers asked
+pub all-same : (f g : ℕ → Bool) (k n : ℕ) → ((i : ℕ) → k ≤ i → i < k + n → f i ≡ g i) → allFrom f k n ≡ allFrom g k n
+unfolding allFrom
+all-same f g k zero h = refl
+all-same f g k (suc n) h = rw (h k (omega arith) (omega arith), all-same f g (suc k) n (λ i a b. h i (omega arith) (omega arith)))
