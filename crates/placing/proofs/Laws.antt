@@ -146,12 +146,6 @@ module _ (own : List ℕ) (m base : ℕ) (bytes : List ℕ) where
     pub link-in : {after : List ℕ} → after ≡ putNumber (6 * n + 2) base bytes → after ≡ putLink (take m own) base bytes
     link-in e = e ∙ sym link-is
 
-    pub link-out : length bytes ≤ 6 * n + 2 → bytes ≡ putLink (take m own) base bytes
-    unfolding putNumber
-    link-out o =
-        let k : length (set bytes (6 * n + 2) (base / 256)) ≤ 6 * n + 2 + 1 = omega (arith, length-set bytes (6 * n + 2) (base / 256), o) in
-        sym (link-is ∙ set-out (set bytes (6 * n + 2) (base / 256)) (6 * n + 2 + 1) (base % 256) k ∙ set-out bytes (6 * n + 2) (base / 256) o)
-
 -- the base that a path gets
 module _ (m : ℕ) (bytes taken : List ℕ) (child : ℕ → Bool) where
   pub base-root : m ≡ 0 → 0 ≡ baseFor m bytes taken child

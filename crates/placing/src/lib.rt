@@ -143,27 +143,16 @@ pub fn cell_of(cells: &[u8], own: &[u8], m: usize) -> usize
     base as usize + patterns::symbol_at(own, i) as usize
 }
 
-// A number of two bytes, where there is room for it.
-pub fn put_number(bytes: &mut [u8], at: usize, n: u16)
-    requires { ⌜ at + 1 < length (now bytes) ⌝ }
-    ensures { λ _. ⌜ now (bytes .exit) ≡ putNumber at n (now (bytes .entry)) ⌝ }
-{
-    bytes[at] = (n / 256 % 256) as u8;
-    bytes[at + 1] = (n % 256) as u8;
-}
-
-// A path's base as the link of its last cell, where there is such a cell. The root has none.
+// A path's base as the link of its last cell. The root has none.
 fn put_link(cells: &mut [u8], own: &[u8], m: usize, base: u16)
-    requires { ⌜ (length (now cells) ≡ 49152) × (m ≤ length (symbolsOf (now own))) ⌝ }
+    requires { ⌜ m ≤ length (symbolsOf (now own)) ⌝ }
     ensures { λ _. ⌜ now (cells .exit) ≡ putLink (take m (symbolsOf (now (own .entry)))) base (now (cells .entry)) ⌝ }
 {
     if m == 0 {
         return;
     }
-    let at = 6 * cell_of(cells, own, m) + 2;
-    if at < cells.len() {
-        put_number(cells, at, base);
-    }
+    let cell = cell_of(cells, own, m);
+    table::put_number(cells, 6 * cell + 2, base);
 }
 
 // The base that a path of m symbols gets.

@@ -40,7 +40,7 @@ put-cells-requires : tie.Need-put-cells-requires
 put-cells-requires c κs = (c .before .before .before .before .before .before .before .before .before .before .before .before .before .before .before .before .pre .0 .ofCells, search needs)
 
 put-link-requires : tie.Need-put-link-requires
-put-link-requires c κs = (c .before .before .before .put-cells .kept .0 ∙ c .before .before .before .before .before .before .before .before .before .before .before .before .before .before .before .before .before .before .before .before .pre .0 .ofCells, c .before .before .before .before .before .before .before .before .before .before .before .before .before .before .before .before .before .before .before .before .pre .1)
+put-link-requires c κs = c .before .before .before .before .before .before .before .before .before .before .before .before .before .before .before .before .before .before .before .before .pre .1
 
 take-base-requires : tie.Need-take-base-requires
 take-base-requires c κs = search needs
