@@ -35,6 +35,11 @@ packedAfter (Refused g) fit room = room
 packedAfter Fine NoRoom room = packedRoom mathlib.Core.List.[] room
 packedAfter Fine (Packed table) room = packedRoom table room
 
+-- What the packer returns and leaves for a good text, in a room that is zero where a table may stand.
+pub record Lays (text room : List ℕ) (r : Packing) (after : List ℕ) : Type 0 where
+  pub answered : r ≡ packing Fine (firstFit (patternsOf text))
+  pub memory : after ≡ packedAfter Fine (firstFit (patternsOf text)) room
+
 -- What the packer returns and leaves.
 pub record Packs (text room : List ℕ) (r : Packing) (after : List ℕ) : Type 0 where
   pub answered : r ≡ packing (judgePack text (length room)) (firstFit (patternsOf text))

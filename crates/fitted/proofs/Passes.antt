@@ -1,0 +1,379 @@
+-- The passes over the list: they place exactly the paths that some pattern goes on behind.
+use Prim.Native.Nat.{ℕ, zero, suc, _+_, _*_, _-_, _≤_, _<_}
+use mathlib.Core.Bool.{Bool, true, false, cond}
+use mathlib.Core.List.{List, [], _∷_}
+use mathlib.Core.Path.{_≡_, refl, sym, _∙_, ap, subst}
+use native.Mathlib.Decide.{ℕ-discrete, decLt}
+use native.Mathlib.Omega.{arith}
+use borrow.Author.Tests.{eqb-true, eq-eqb, ne-eqb}
+use lib.Dec.{eqb}
+use lib.ListN.{length, getD, set, take, drop, replicate, getD-replicate, length-replicate, drop-of-length-le, List·getD-eq-default}
+use lib.Seq.{length-take-le, take-suc, drop-cons}
+use Rattle.base.specs.Limits.{symbols, patternLimit, cells}
+use Rattle.liang.specs.Patterns.{Pattern}
+use Rattle.liang.specs.Levels.{begins}
+use Rattle.patterns.specs.Common.{common}
+use Rattle.table.specs.Table.{cellSize, numberAt}
+use Rattle.right.specs.Paths.{nth, noPattern}
+use Rattle.right.specs.Test.{nextIn}
+use Rattle.accepted.specs.Shaped.{Shaped}
+use Rattle.accepted.proofs.Strings.{begins-alphabet}
+use Rattle.fit.specs.Cells.{Layout, Full, Fits, serves, smallest, baseFor, inside, putCells, putLink, placeAt, place, opens, placeLength, placeLengths, layoutOf}
+use Rattle.fitted.proofs.Bytes.{symbolIn}
+use Rattle.fitted.proofs.Strings.{_▸_, snoc-length, length-none, alphabet-last}
+use Rattle.fitted.proofs.Nodes.{Node, node, Goes, Placed, Behind}
+use Rattle.fitted.proofs.Placing.{Laid, Fitting, laid-more}
+use Rattle.fitted.proofs.Together.{begins-take}
+use Rattle.fitted.proofs.Search.{Smallest, smallest-found, serves-says, inside-says}
+use Rattle.fitted.proofs.Opened.{Sorted, Opened, beginning-goes, above, opens-says, opens-not, opens-first}
+
+-- Within the pass for paths of m symbols, before pattern k: what is placed, and that it is all that had to be.
+pub record Passing (patterns : List Pattern) (m k : ℕ) (bytes taken : List ℕ) : Type 0 where
+  pub nodes : List Node
+  pub laid : Laid nodes bytes taken
+  pub opened : (i : ℕ) → i < length nodes → Opened patterns (node nodes i)
+  pub short : (i : ℕ) → i < length nodes → length (node nodes i .path) ≤ m
+  pub early : (i : ℕ) → i < length nodes → length (node nodes i .path) ≡ m → node nodes i .opener < k
+  pub shorter : (l j : ℕ) → l < m → j < length patterns → l < length (nth patterns j .symbols) → Placed nodes (take l (nth patterns j .symbols))
+  pub done : (j : ℕ) → j < k → m < length (nth patterns j .symbols) → Placed nodes (take m (nth patterns j .symbols))
+
+abbrev pub PassingIn : List Pattern → ℕ → ℕ → Layout → Type 0
+PassingIn patterns m k Full = Unit
+PassingIn patterns m k (Fits bytes taken) = Passing patterns m k bytes taken
+
+placed-more : (nodes : List Node) (new : Node) (u : List ℕ) → Placed nodes u → Placed (new ∷ nodes) u
+placed-more nodes new u p = record { at = suc (p .at); inside = omega (arith, p .inside); same = p .same }
+
+-- two strings with m symbols in common
+take-common : (m : ℕ) (a b : List ℕ) → m ≤ common a b → take m a ≡ take m b
+unfolding common
+take-common zero a b h = refl
+take-common (suc m) [] b h = absurd (omega arith)
+take-common (suc m) (x ∷ a) [] h = absurd (omega arith)
+take-common (suc m) (x ∷ a) (y ∷ b) h = go (eqb x y) refl h (take-common m a b)
+  where
+    go : (z : Bool) → eqb x y ≡ z → suc m ≤ cond z (suc (common a b)) 0 → (m ≤ common a b → take m a ≡ take m b) → x ∷ take m a ≡ y ∷ take m b
+    go true p k next = let e = eqb-true x y p in let f = next (omega arith) in cc
+    go false p k next = absurd (omega arith)
+
+module _ (patterns : List Pattern) (sorted : Sorted patterns) (shaped : (i : ℕ) → i < length patterns → Shaped (nth patterns i)) where
+  -- a pattern's symbol at its place
+  symbol-at : (m k : ℕ) → k < length patterns → m < length (nth patterns k .symbols)
+      → (1 ≤ getD (nth patterns k .symbols) m 0) × (getD (nth patterns k .symbols) m 0 ≤ symbols) × (begins (take m (nth patterns k .symbols) ▸ getD (nth patterns k .symbols) m 0) (nth patterns k .symbols) ≡ true)
+  symbol-at m k h l =
+      let own = nth patterns k .symbols in
+      let b : begins (take m own ▸ getD own m 0) own ≡ true = subst (λ (u : List ℕ). begins u own ≡ true) (take-suc own m 0 l) (begins-take (suc m) own) in
+      let a = alphabet-last (take m own) (getD own m 0) (begins-alphabet (take m own ▸ getD own m 0) own b (shaped k h .alphabet)) in
+      (a .0, a .1, b)
+
+  module _ (m k : ℕ) (within : k < length patterns) (bytes taken : List ℕ) (now : Passing patterns m k bytes taken)
+      (opening : opens m (above patterns k) (nth patterns k .symbols) ≡ true) where
+    abbrev own : List ℕ
+    own = nth patterns k .symbols
+
+    longer : m < length own
+    longer = opens-says m (above patterns k) (nth patterns k .symbols) opening .0
+
+    abbrev new : ℕ → Node
+    new base = record { path = take m own; base = base; child = nextIn m own (drop k patterns); opener = k }
+
+    size : length (take m own) ≡ m
+    size = length-take-le m own (omega (arith, longer))
+
+    new-opened : (base : ℕ) → Opened patterns (new base)
+    new-opened base =
+        record {
+          within = within;
+          longer = omega (arith, size, longer);
+          stands = begins-take m own;
+          first = λ j h b. omega (arith, size, opens-first patterns sorted m k within opening j h b);
+          child = λ s. ap (λ (n : ℕ). nextIn n own (drop k patterns) s) (sym size);
+        }
+
+    -- the path was not placed before: its opener would stand above this pattern
+    fresh : (i : ℕ) → i < length (now .nodes) → node (now .nodes) i .path ≡ take m own → ⊥
+    fresh i h e =
+        let o = now .opened i h in
+        let b = subst (λ (u : List ℕ). begins u (nth patterns (node (now .nodes) i .opener) .symbols) ≡ true) e (o .stands) in
+        let f = opens-first patterns sorted m k within opening (node (now .nodes) i .opener) (now .early i h (ap length e ∙ size)) b in
+        omega (arith, f, o .longer, ap length e, size)
+
+    -- the pattern itself goes on with its next symbol
+    own-goes : (base : ℕ) → Goes (new base) (getD own m 0)
+    own-goes base =
+        let s = symbol-at m k within longer in
+        beginning-goes patterns (new base) (new-opened base) sorted (getD own m 0) (s .0) (s .1)
+        (record { some = omega (arith, snoc-length (take m own) (getD own m 0)); at = k; within = within; stands = s .2 })
+
+    -- the base that the search gives
+    record Served (base : ℕ) : Type 0 where
+      free : (s : ℕ) → Goes (new base) s → symbolIn bytes (base + s) ≡ 0
+      low : base < cells
+      unmarked : getD taken base 0 ≡ 0
+      root : m ≡ 0 → base ≡ 0
+      rooted : base ≡ 0 → m ≡ 0
+
+    -- where the root is placed nothing is yet
+    served-root : m ≡ 0 → Served 0
+    served-root z =
+        record {
+          free = λ s g. empty (0 + s) (ℕ-discrete (symbolIn bytes (0 + s)) 0);
+          low = omega arith;
+          unmarked = now .laid .unmarked 0 (λ i h e. none i h);
+          root = λ e. refl;
+          rooted = λ e. z;
+        }
+      where
+        none : (i : ℕ) → i < length (now .nodes) → ⊥
+        none i h = fresh i h (length-none (node (now .nodes) i .path) (omega (arith, now .short i h, z)) ∙ sym (length-none (take m own) (omega (arith, size, z))))
+
+        empty : (n : ℕ) → Dec (symbolIn bytes n ≡ 0) → symbolIn bytes n ≡ 0
+        empty n (yes e) = e
+        empty n (no d) = let w = now .laid .owned .owner n d in absurd (none (w .at) (w .inside))
+
+    served-found : (m ≡ 0 → ⊥) → (base : ℕ) → Smallest (serves bytes taken (nextIn m own (drop k patterns))) 1 (cells - 1) base → inside (nextIn m own (drop k patterns)) base ≡ true → Served base
+    served-found d base found e =
+        record {
+          free = λ s g. says .1 s (g .low) (g .high) (g .goes);
+          low = low;
+          unmarked = says .0;
+          root = λ z. absurd (d z);
+          rooted = λ z. absurd (omega (arith, z, found .low));
+        }
+      where
+        low : base < cells
+        low = let g = own-goes base in omega (arith, inside-says (nextIn m own (drop k patterns)) base e (getD own m 0) (g .low) (g .high) (g .goes))
+
+        says : (getD taken base 0 ≡ 0) × ((s : ℕ) → 1 ≤ s → s ≤ symbols → nextIn m own (drop k patterns) s ≡ true → symbolIn bytes (base + s) ≡ 0)
+        says = serves-says bytes taken (nextIn m own (drop k patterns)) base (found .passes (omega (arith, low)))
+
+    served : inside (nextIn m own (drop k patterns)) (baseFor m bytes taken (nextIn m own (drop k patterns))) ≡ true → Served (baseFor m bytes taken (nextIn m own (drop k patterns)))
+    unfolding baseFor
+    served e = go (ℕ-discrete m 0) e
+      where
+        found : ℕ
+        found = smallest (serves bytes taken (nextIn m own (drop k patterns))) 1 (cells - 1)
+
+        go : Dec (m ≡ 0) → inside (nextIn m own (drop k patterns)) (cond (eqb m 0) 0 found) ≡ true → Served (cond (eqb m 0) 0 found)
+        go (yes z) i = rw (eq-eqb m 0 z) (served-root z)
+        go (no d) i = rw (ne-eqb m 0 d) (served-found d found (smallest-found _ (cells - 1) 1) (rw (ne-eqb m 0 d) at i))
+
+    fitting : (base : ℕ) → Served base → inside (nextIn m own (drop k patterns)) base ≡ true → Fitting (now .nodes) bytes taken (new base)
+    fitting base s e =
+        record {
+          free = s .free;
+          within = λ t g. inside-says (nextIn m own (drop k patterns)) base e t (g .low) (g .high) (g .goes);
+          inside = s .low;
+          unmarked = s .unmarked;
+          root = λ z. s .root (omega (arith, size, ap length z));
+          rooted = λ z. ap (λ (n : ℕ). take n own) (s .rooted z);
+          fresh = fresh;
+          longest = λ i h. omega (arith, size, now .short i h);
+          behind = λ d. up m refl d;
+        }
+      where
+        -- the path one symbol shorter was placed in the pass before
+        up : (n : ℕ) → m ≡ n → (take m own ≡ [] → ⊥) → Behind (now .nodes) (take m own)
+        up zero z d = absurd (d (ap (λ (n : ℕ). take n own) z))
+        up (suc n) z d =
+            let l : n < length own = omega (arith, longer) in
+            let p = now .shorter n k (omega arith) within l in
+            let t : take m own ≡ take n own ▸ getD own n 0 = ap (λ (i : ℕ). take i own) z ∙ take-suc own n 0 l in
+            let same : take m own ≡ node (now .nodes) (p .at) .path ▸ getD own n 0 = t ∙ ap (λ (u : List ℕ). u ▸ getD own n 0) (sym (p .same)) in
+            let a = symbol-at n k within l in
+            record {
+              at = p .at;
+              inside = p .inside;
+              last = getD own n 0;
+              same = same;
+              goes = beginning-goes patterns (node (now .nodes) (p .at)) (now .opened (p .at) (p .inside)) sorted (getD own n 0) (a .0) (a .1)
+                  (record {
+                    some = omega (arith, snoc-length (node (now .nodes) (p .at) .path) (getD own n 0));
+                    at = k;
+                    within = within;
+                    stands = subst (λ (u : List ℕ). begins (u ▸ getD own n 0) own ≡ true) (sym (p .same)) (a .2);
+                  });
+            }
+
+    place-more : PassingIn patterns m (suc k) (place m own (drop k patterns) (Fits bytes taken))
+    unfolding place placeAt
+    place-more = go base (inside child base) refl served
+      where
+        child : ℕ → Bool
+        child = nextIn m own (drop k patterns)
+
+        base : ℕ
+        base = baseFor m bytes taken child
+
+        opened : (b i : ℕ) → i < length (new b ∷ now .nodes) → Opened patterns (node (new b ∷ now .nodes) i)
+        opened b zero h = new-opened b
+        opened b (suc i) h = now .opened i (omega arith)
+
+        short : (b i : ℕ) → i < length (new b ∷ now .nodes) → length (node (new b ∷ now .nodes) i .path) ≤ m
+        short b zero h = omega (arith, size)
+        short b (suc i) h = now .short i (omega arith)
+
+        early : (b i : ℕ) → i < length (new b ∷ now .nodes) → length (node (new b ∷ now .nodes) i .path) ≡ m → node (new b ∷ now .nodes) i .opener < suc k
+        early b zero h e = omega arith
+        early b (suc i) h e = omega (arith, now .early i (omega arith) e)
+
+        done : (b j : ℕ) → j < suc k → m < length (nth patterns j .symbols) → Placed (new b ∷ now .nodes) (take m (nth patterns j .symbols))
+        done b j h l = of (ℕ-discrete k j)
+          where
+            of : Dec (k ≡ j) → Placed (new b ∷ now .nodes) (take m (nth patterns j .symbols))
+            of (yes e) = record { at = 0; inside = omega arith; same = ap (λ (i : ℕ). take m (nth patterns i .symbols)) e }
+            of (no d) = placed-more (now .nodes) (new b) _ (now .done j (omega arith) l)
+
+        go : (b : ℕ) (z : Bool) → inside child b ≡ z → (inside child b ≡ true → Served b)
+            → PassingIn patterns m (suc k) (cond z (Fits (putLink (take m own) b (putCells child b 1 symbols bytes)) (set taken b 1)) Full)
+        go b false e s = tt
+        go b true e s =
+            record {
+              nodes = new b ∷ now .nodes;
+              laid = laid-more (now .nodes) bytes taken (new b) (now .laid) (fitting b (s e) e);
+              opened = opened b;
+              short = short b;
+              early = early b;
+              shorter = λ l j h i q. placed-more (now .nodes) (new b) _ (now .shorter l j h i q);
+              done = done b;
+            }
+
+  -- a pattern that opens nothing: its path is that of the one above
+  place-none : (m k : ℕ) → k < length patterns → (bytes taken : List ℕ) → opens m (above patterns k) (nth patterns k .symbols) ≡ false → Passing patterns m k bytes taken
+      → Passing patterns m (suc k) bytes taken
+  place-none m k within bytes taken e now =
+      record {
+        nodes = now .nodes;
+        laid = now .laid;
+        opened = now .opened;
+        short = now .short;
+        early = λ i h p. omega (arith, now .early i h p);
+        shorter = now .shorter;
+        done = λ j h l. of j l (ℕ-discrete j k) h;
+      }
+    where
+      up : (i : ℕ) → k ≡ i → m < length (nth patterns k .symbols) → (m ≤ common (above patterns i) (nth patterns k .symbols)) × (m < length (above patterns i))
+          → Placed (now .nodes) (take m (nth patterns k .symbols))
+      up zero z l p = absurd (omega (arith, p .1))
+      up (suc i) z l p =
+          let q = now .done i (omega arith) (p .1) in
+          record { at = q .at; inside = q .inside; same = q .same ∙ take-common m (nth patterns i .symbols) (nth patterns k .symbols) (p .0) }
+
+      of : (j : ℕ) → m < length (nth patterns j .symbols) → Dec (j ≡ k) → j < suc k → Placed (now .nodes) (take m (nth patterns j .symbols))
+      of j l (yes q) h =
+          subst (λ (i : ℕ). Placed (now .nodes) (take m (nth patterns i .symbols))) (sym q)
+          (up k refl (subst (λ (i : ℕ). m < length (nth patterns i .symbols)) q l)
+          (opens-not m (above patterns k) (nth patterns k .symbols) e (subst (λ (i : ℕ). m < length (nth patterns i .symbols)) q l)))
+      of j l (no d) h = now .done j (omega arith) l
+
+  place-step : (m k : ℕ) → k < length patterns → (layout : Layout) → PassingIn patterns m k layout
+      → PassingIn patterns m (suc k) (cond (opens m (above patterns k) (nth patterns k .symbols)) (place m (nth patterns k .symbols) (drop k patterns) layout) layout)
+  place-step m k h layout now = go (opens m (above patterns k) (nth patterns k .symbols)) refl layout now
+    where
+      go : (z : Bool) → opens m (above patterns k) (nth patterns k .symbols) ≡ z → (layout : Layout) → PassingIn patterns m k layout
+          → PassingIn patterns m (suc k) (cond z (place m (nth patterns k .symbols) (drop k patterns) layout) layout)
+      go true e Full now = unfold place in tt
+      go true e (Fits bytes taken) now = place-more m k h bytes taken now e
+      go false e Full now = tt
+      go false e (Fits bytes taken) now = place-none m k h bytes taken e now
+
+  pass-turn : (m k : ℕ) (layout : Layout) → k < length patterns
+      → placeLength m (above patterns k) (drop k patterns) layout
+      ≡ placeLength m (above patterns (suc k)) (drop (suc k) patterns) (cond (opens m (above patterns k) (nth patterns k .symbols)) (place m (nth patterns k .symbols) (drop k patterns) layout) layout)
+  unfolding placeLength
+  pass-turn m k layout h =
+      let e = drop-cons patterns k noPattern h in
+      ap (λ (ps : List Pattern). placeLength m (above patterns k) ps layout) e
+      ∙ ap (λ (ps : List Pattern). placeLength m (nth patterns k .symbols) (drop (suc k) patterns) (cond (opens m (above patterns k) (nth patterns k .symbols)) (place m (nth patterns k .symbols) ps layout) layout)) (sym e)
+
+  pass-end : (m : ℕ) (a : List ℕ) (layout : Layout) → placeLength m a [] layout ≡ layout
+  unfolding placeLength
+  pass-end m a layout = refl
+
+  -- one pass, n patterns from k on
+  pass-from : (m n k : ℕ) → k + n ≡ length patterns → (layout : Layout) → PassingIn patterns m k layout
+      → PassingIn patterns m (length patterns) (placeLength m (above patterns k) (drop k patterns) layout)
+  pass-from m zero k e layout now =
+      let z : k ≡ length patterns = omega arith in
+      let h : length patterns ≤ k = omega arith in
+      let d : drop k patterns ≡ [] = drop-of-length-le patterns h in
+      let same : placeLength m (above patterns k) (drop k patterns) layout ≡ layout = ap (λ (ps : List Pattern). placeLength m (above patterns k) ps layout) d ∙ pass-end m (above patterns k) layout in
+      subst (λ (l : Layout). PassingIn patterns m (length patterns) l) (sym same) (subst (λ (i : ℕ). PassingIn patterns m i layout) z now)
+  pass-from m (suc n) k e layout now =
+      subst (λ (l : Layout). PassingIn patterns m (length patterns) l) (sym (pass-turn m k layout (omega arith)))
+      (pass-from m n (suc k) (omega arith) _ (place-step m k (omega arith) layout now))
+
+  -- the next pass begins where one ends
+  next-pass : (m : ℕ) (layout : Layout) → PassingIn patterns m (length patterns) layout → PassingIn patterns (suc m) 0 layout
+  next-pass m Full now = tt
+  next-pass m (Fits bytes taken) now =
+      record {
+        nodes = now .nodes;
+        laid = now .laid;
+        opened = now .opened;
+        short = λ i h. omega (arith, now .short i h);
+        early = λ i h e. absurd (omega (arith, now .short i h, e));
+        shorter = λ l j h i k. of l j h i k (ℕ-discrete m l);
+        done = λ j h l. absurd (omega arith);
+      }
+    where
+      of : (l j : ℕ) → l < suc m → j < length patterns → l < length (nth patterns j .symbols) → Dec (m ≡ l) → Placed (now .nodes) (take l (nth patterns j .symbols))
+      of l j h i k (yes e) =
+          subst (λ (n : ℕ). Placed (now .nodes) (take n (nth patterns j .symbols))) e (now .done j i (subst (λ (n : ℕ). n < length (nth patterns j .symbols)) (sym e) k))
+      of l j h i k (no d) = now .shorter l j (omega arith) i k
+
+  passes-from : (n m : ℕ) (layout : Layout) → PassingIn patterns m 0 layout → PassingIn patterns (m + n) 0 (placeLengths m n patterns layout)
+  unfolding placeLengths
+  passes-from zero m layout now = let e : m ≡ m + 0 = omega arith in subst (λ (n : ℕ). PassingIn patterns n 0 layout) e now
+  passes-from (suc n) m layout now =
+      let e : suc m + n ≡ m + suc n = omega arith in
+      subst (λ (k : ℕ). PassingIn patterns k 0 (placeLengths (suc m) n patterns (placeLength m [] patterns layout))) e
+      (passes-from n (suc m) (placeLength m [] patterns layout) (next-pass m (placeLength m [] patterns layout) (pass-from m (length patterns) 0 (omega arith) layout now)))
+
+-- bytes of zeros
+zero-byte : (n i : ℕ) → _≡_ {A = ℕ} (getD (replicate n 0) i 0) 0
+zero-byte n i = go (decLt i n)
+  where
+    go : Dec (i < n) → _≡_ {A = ℕ} (getD (replicate n 0) i 0) 0
+    go (yes h) = getD-replicate {A = ℕ} n i 0 0 h
+    go (no d) = List·getD-eq-default (replicate n 0) 0 (omega (arith, length-replicate {A = ℕ} n 0))
+
+-- before the first pass there is no node
+laid-none : (a b : ℕ) → a ≡ cellSize * cells → b ≡ cells → Laid [] (replicate a 0) (replicate b 0)
+unfolding numberAt
+laid-none a b p q =
+    record {
+      size = length-replicate {A = ℕ} a 0 ∙ p;
+      room = length-replicate {A = ℕ} b 0 ∙ q;
+      tree = record {
+        apart = λ i j h. absurd (omega arith);
+        distinct = λ i j h. absurd (omega arith);
+        root = λ i h. absurd (omega arith);
+        rooted = λ i h. absurd (omega arith);
+        behind = λ i h. absurd (omega arith);
+      };
+      owned = record { held = λ j s h. absurd (omega arith); owner = λ n d. absurd (d (zero-byte a (cellSize * n + 1))) };
+      links = record { linked = λ i j s h. absurd (omega arith); unlinked = λ j s h. absurd (omega arith) };
+      blank = λ n e. omega (arith, zero-byte a (cellSize * n + 2), zero-byte a (cellSize * n + 2 + 1));
+      silent = λ n. omega (arith, zero-byte a (cellSize * n + 4), zero-byte a (cellSize * n + 4 + 1));
+      marked = λ i h. absurd (omega arith);
+      unmarked = λ n none. zero-byte b n;
+    }
+
+passing-start : (patterns : List Pattern) (a b : ℕ) → a ≡ cellSize * cells → b ≡ cells → Passing patterns 0 0 (replicate a 0) (replicate b 0)
+passing-start patterns a b p q =
+    record {
+      nodes = [];
+      laid = laid-none a b p q;
+      opened = λ i h. absurd (omega arith);
+      short = λ i h. absurd (omega arith);
+      early = λ i h. absurd (omega arith);
+      shorter = λ l j h. absurd (omega arith);
+      done = λ j h. absurd (omega arith);
+    }
+
+-- After all passes every path of less than 16 symbols that a pattern goes on behind is placed, and nothing else.
+pub layout-passed : (patterns : List Pattern) → Sorted patterns → ((i : ℕ) → i < length patterns → Shaped (nth patterns i)) → PassingIn patterns patternLimit 0 (layoutOf patterns)
+unfolding layoutOf
+layout-passed patterns sorted shaped =
+    passes-from patterns sorted shaped patternLimit 0 (Fits (replicate (cellSize * cells) 0) (replicate cells 0)) (passing-start patterns (cellSize * cells) cells refl refl)

@@ -1,0 +1,1 @@
+// First fit is right: proofs alone, in proofs/. No code stands here.
