@@ -8,7 +8,7 @@ use borrow.Author.Tests.{leb-true, le-leb, eqb-true, eqb-false, not-false}
 use lib.Dec.{leb, eqb}
 use lib.ListN.{length, getD, drop, length-map, length-drop}
 use lib.Seq.{length-take-le}
-use Rattle.base.specs.Limits.{edge, symbols, patternLimit, patternText}
+use Rattle.base.specs.Limits.{edge, symbols, patternLimit, patternText, levelLimit}
 use Rattle.base.specs.declared.Check.the-variants.{Fine}
 use Rattle.base.specs.declared.Ground.the-variants.{TableForm}
 use Rattle.base.proofs.Grounds.{both-fine, not-refused}
@@ -102,6 +102,20 @@ good-shaped line e =
       measured = line-levels 0 line;
     }
 
+-- a line's levels are those of digits
+line-low : (level : ℕ) (line : List ℕ) → level ≤ levelLimit → (gap : ℕ) → getD (levelsFrom level line) gap 0 ≤ levelLimit
+unfolding levelsFrom digit
+line-low level [] h zero = h
+line-low level [] h (suc gap) = omega arith
+line-low level (b ∷ t) h gap = go (digit b) refl (eqb (symbolOf b) 0) (λ l k g. line-low l t k g) gap
+  where
+    go : (d : Bool) → digit b ≡ d → (z : Bool) → ((l : ℕ) → l ≤ levelLimit → (g : ℕ) → getD (levelsFrom l t) g 0 ≤ levelLimit) → (gap : ℕ)
+        → getD (cond d (levelsFrom (b - 48) t) (cond z (levelsFrom level t) (level ∷ levelsFrom 0 t))) gap 0 ≤ levelLimit
+    go true p z next gap = next (b - 48) (omega (arith, range-high 49 57 b p)) gap
+    go false p true next gap = next level h gap
+    go false p false next zero = h
+    go false p false next (suc gap) = next 0 (omega arith) gap
+
 -- every line of a list that has no bad line is good
 each-good : (form : Form) (at : ℕ) (above : List ℕ) (ls : List (List ℕ)) → firstBad form at above ls ≡ Good → (i : ℕ) → i < length ls → goodLine form (getD ls i []) ≡ true
 each-good form at above [] e i h = absurd (omega arith)
@@ -139,6 +153,10 @@ module _ (text : List ℕ) (fine : judgePatterns text ≡ Fine) where
   good-patterns i h =
       let p = nth-pattern i h in
       rw (p .1) (good-shaped (getD (cut text) i []) (each-good Patterns 0 [] (cut text) good i (p .0)))
+
+  pub good-levels : (i : ℕ) → i < length (patternsOf text) → (gap : ℕ) → getD (nth (patternsOf text) i .levels) gap 0 ≤ levelLimit
+  unfolding patternOf
+  good-levels i h gap = rw (nth-pattern i h .1) (line-low 0 (getD (cut text) i []) (omega arith) gap)
 
 -- the length that ground 9 asks for, part by part
 module _ (table : List ℕ) (fine : judgeTable table ≡ Fine) where
