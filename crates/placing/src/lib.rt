@@ -177,7 +177,7 @@ fn take_base(taken: &mut [u8], base: u16)
 }
 
 // The path of the first m symbols of own gets its base; the patterns are read from a place of the text on.
-pub fn place_path(
+fn place_path(
     cells: &mut [u8],
     taken: &mut [u8],
     own: &[u8],
