@@ -55,15 +55,31 @@ abbrev pub roomAfter : Check → List ℕ → List ℕ → List ℕ
 roomAfter Fine sheet room = written sheet room
 roomAfter (Refused g) sheet room = room
 
--- What the levels call returns and leaves. It "always walks".
-pub record Levels (word table room : List ℕ) (r : Answer) (after : List ℕ) : Type 0 where
-  pub answered : r ≡ answer (judgeLevels word table (length room)) (levelSheet (cellsOf table) (entriesOf table) rootBase word) (wordLooks (cellsOf table) rootBase word)
-  pub memory : after ≡ roomAfter (judgeLevels word table (length room)) (levelSheet (cellsOf table) (entriesOf table) rootBase word) room
+-- What the levels call answers for a room of this size, and what it leaves in a room. It "always walks".
+abbrev pub levelsAnswer : List ℕ → List ℕ → ℕ → Answer
+levelsAnswer word table size = answer (judgeLevels word table size) (levelSheet (cellsOf table) (entriesOf table) rootBase word) (wordLooks (cellsOf table) rootBase word)
 
--- What the hyphenating call returns and leaves.
+abbrev pub levelsRoom : List ℕ → List ℕ → List ℕ → List ℕ
+levelsRoom word table room = roomAfter (judgeLevels word table (length room)) (levelSheet (cellsOf table) (entriesOf table) rootBase word) room
+
+-- What the hyphenating call answers for a room of this size, and what it leaves in a room.
+abbrev pub breaksAnswer : ℕ → ℕ → List ℕ → List ℕ → List ℕ → List ℕ → ℕ → Answer
+breaksAnswer left right word customer house table size =
+    answer (judgeHyphenate left right word customer house table size)
+    (breakSheet left right customer house (cellsOf table) (entriesOf table) rootBase word)
+    (breakLooks customer house (cellsOf table) rootBase word)
+
+abbrev pub breaksRoom : ℕ → ℕ → List ℕ → List ℕ → List ℕ → List ℕ → List ℕ → List ℕ
+breaksRoom left right word customer house table room =
+    roomAfter (judgeHyphenate left right word customer house table (length room))
+    (breakSheet left right customer house (cellsOf table) (entriesOf table) rootBase word) room
+
+-- The promise of the levels call.
+pub record Levels (word table room : List ℕ) (r : Answer) (after : List ℕ) : Type 0 where
+  pub answered : r ≡ levelsAnswer word table (length room)
+  pub memory : after ≡ levelsRoom word table room
+
+-- The promise of the hyphenating call.
 pub record Breaks (left right : ℕ) (word customer house table room : List ℕ) (r : Answer) (after : List ℕ) : Type 0 where
-  pub answered : r ≡ answer (judgeHyphenate left right word customer house table (length room))
-      (breakSheet left right customer house (cellsOf table) (entriesOf table) rootBase word)
-      (breakLooks customer house (cellsOf table) rootBase word)
-  pub memory : after ≡ roomAfter (judgeHyphenate left right word customer house table (length room))
-      (breakSheet left right customer house (cellsOf table) (entriesOf table) rootBase word) room
+  pub answered : r ≡ breaksAnswer left right word customer house table (length room)
+  pub memory : after ≡ breaksRoom left right word customer house table room

@@ -40,7 +40,14 @@ pub record Lays (text room : List ℕ) (r : Packing) (after : List ℕ) : Type 0
   pub answered : r ≡ packing Fine (firstFit (patternsOf text))
   pub memory : after ≡ packedAfter Fine (firstFit (patternsOf text)) room
 
--- What the packer returns and leaves.
+-- What the packer answers for a room of this size, and what it leaves in a room.
+abbrev pub packAnswer : List ℕ → ℕ → Packing
+packAnswer text size = packing (judgePack text size) (firstFit (patternsOf text))
+
+abbrev pub packLeaves : List ℕ → List ℕ → List ℕ
+packLeaves text room = packedAfter (judgePack text (length room)) (firstFit (patternsOf text)) room
+
+-- The promise of the packer.
 pub record Packs (text room : List ℕ) (r : Packing) (after : List ℕ) : Type 0 where
-  pub answered : r ≡ packing (judgePack text (length room)) (firstFit (patternsOf text))
-  pub memory : after ≡ packedAfter (judgePack text (length room)) (firstFit (patternsOf text)) room
+  pub answered : r ≡ packAnswer text (length room)
+  pub memory : after ≡ packLeaves text room

@@ -1,0 +1,52 @@
+-- How an answer stands in the 64 bits that a C function returns. include/tteolmigu.h says the same to a reader of C.
+use Prim.Native.Nat.{ℕ, _+_, _*_, _-_, _%_, _^_}
+use Rattle.base.specs.Limits.{customerList, houseList}
+use Rattle.base.specs.Grounds.{told}
+use Rattle.base.specs.declared.Check.{Check}
+use Rattle.base.specs.declared.Check.the-variants as checks
+use Rattle.base.specs.declared.Ground.{Ground}
+use Rattle.lookup.specs.declared.Located.{Located}
+use Rattle.lookup.specs.declared.Located.the-variants.{Customer, House, Nowhere}
+use Rattle.hyphenation.specs.declared.Answer.{Answer}
+use Rattle.hyphenation.specs.declared.Answer.the-variants as answers
+use Rattle.packer.specs.declared.Packing.{Packing}
+use Rattle.packer.specs.declared.Packing.the-variants as packings
+
+-- The last `width` bits of a number, from bit `low` on.
+abbrev pub bitsAt : ℕ → ℕ → ℕ → ℕ
+bitsAt low width n = n % 2 ^ width * 2 ^ low
+
+-- Refusal: bits 56 to 63 the number, bits 48 to 55 the list (0 if none), bits 0 to 47 the place (0 if none).
+abbrev pub toldBits : ℕ → ℕ → ℕ → ℕ
+toldBits number list place = bitsAt 56 8 number + bitsAt 48 8 list + bitsAt 0 48 place
+
+abbrev pub refusalBits : Ground → ℕ
+refusalBits g = toldBits (told g .number) (told g .list) (told g .place)
+
+-- Hyphenate and levels: bits 32 to 47 how many breaks or levels, bits 0 to 31 the count.
+abbrev pub foundBits : ℕ → ℕ → ℕ
+foundBits marks looks = bitsAt 32 16 marks + bitsAt 0 32 looks
+
+-- Lookup: bits 48 to 55 the list that holds the line, bits 16 to 47 the line's offset, bits 0 to 15 its length.
+abbrev pub lineBits : ℕ → ℕ → ℕ → ℕ
+lineBits list start end = bitsAt 48 8 list + bitsAt 16 32 start + bitsAt 0 16 (end - start)
+
+abbrev pub answerBits : Answer → ℕ
+answerBits (answers.Found marks looks) = foundBits marks looks
+answerBits (answers.Refused g) = refusalBits g
+
+-- Pack: bits 0 to 47 the length.
+abbrev pub packingBits : Packing → ℕ
+packingBits (packings.Done size) = bitsAt 0 48 size
+packingBits (packings.Refused g) = refusalBits g
+
+-- Check: all zero where the table is accepted.
+abbrev pub checkBits : Check → ℕ
+checkBits checks.Fine = 0
+checkBits (checks.Refused g) = refusalBits g
+
+-- All zero where there is no line, and where the lookup's empty part stands for a refusal.
+abbrev pub locatedBits : Located → ℕ
+locatedBits (Customer start end) = lineBits customerList start end
+locatedBits (House start end) = lineBits houseList start end
+locatedBits Nowhere = 0
