@@ -19,7 +19,7 @@ use Rattle.hyphenation.specs.Sheet.{sheet, written, nonzero}
 use Rattle.hyphenation.specs.Levels.{levelSheet, wordLooks}
 use Rattle.hyphenation.specs.Breaks.{breakSheet, breakLooks}
 use Rattle.hyphenation.specs.Post.{Done}
-use Rattle.hyphenation.specs.Calls.{rootBase, judgeRoom, judgeMargins, judgeLevels, judgeHyphenate, answer, roomAfter, Levels, Breaks}
+use Rattle.hyphenation.specs.Calls.{rootBase, judgeRoom, judgeMargins, judgeLevels, judgeHyphenate, Answered, answer, roomAfter, breaksSheet, breaksLooks}
 use Rattle.hyphenation.specs.declared.Answer.{Answer}
 use Rattle.hyphenation.specs.declared.Answer.the-variants as answers
 use Rattle.hyphenation.proofs.Rooms.{written-take}
@@ -40,45 +40,47 @@ room-fits size e = ltb-false size roomSize (not-refused (ltb size roomSize) Room
 marked : (f : ℕ → ℕ) (room : List ℕ) {after : List ℕ} {marks : ℕ} → after ≡ written (sheet f) room → marks ≡ nonzero (take roomSize after) → marks ≡ nonzero (sheet f)
 marked f room e m = m ∙ rw (e, written-take f room)
 
-module _ (word table room : List ℕ) {judged : Check} (p : judged ≡ judgeLevels word table (length room)) where
-  pub levels-refused : {g : Ground} → judged ≡ Refused g → Levels word table room (answers.Refused g) room
-  levels-refused q = record { answered = rw (← p, q); memory = rw (← p, q) }
+-- a refusal leaves the room alone, whatever the call
+pub refused : (sheet : List ℕ) (looks : ℕ) (room : List ℕ) {judged judgement : Check} {g : Ground} → judged ≡ judgement → judged ≡ Refused g
+    → Answered judgement sheet looks room (answers.Refused g) room
+refused sheet looks room p q = record { answered = rw (← p, q); memory = rw (← p, q) }
 
-  pub levels-sizes : judged ≡ Fine → (length word ≤ wordLimit) × (roomSize ≤ length room)
-  unfolding judgeLevels
-  levels-sizes q =
-      let a = both-fine (judgeRoom (length room)) _ (sym p ∙ q) in
-      let b = both-fine (judgeWord wordLimit word) (judgeTable table) (a .1) in
-      (word-fits wordLimit word (b .0), room-fits (length room) (a .0))
+-- a finding of the levels call
+pub levels-found : (word table room : List ℕ) {judged judgement : Check} → judged ≡ judgement → judged ≡ Fine
+    → {cells entries after : List ℕ} {marks looks : ℕ} → cells ≡ cellsOf table → entries ≡ entriesOf table
+    → Done (levelSheet cells entries rootBase word) (wordLooks cells rootBase word) room looks after → marks ≡ nonzero (take roomSize after)
+    → Answered judgement (levelSheet (cellsOf table) (entriesOf table) rootBase word) (wordLooks (cellsOf table) rootBase word) room (answers.Found marks looks) after
+unfolding levelSheet
+levels-found word table room p q c e d m =
+    record {
+      answered = rw (← p, q, ← c, ← e, marked _ room (d .memory) m, d .counted);
+      memory = d .memory ∙ rw (← p, q, ← c, ← e);
+    }
 
-  pub levels-found : judged ≡ Fine → {cells entries after : List ℕ} {marks looks : ℕ} → cells ≡ cellsOf table → entries ≡ entriesOf table
-      → Done (levelSheet cells entries rootBase word) (wordLooks cells rootBase word) room looks after → marks ≡ nonzero (take roomSize after)
-      → Levels word table room (answers.Found marks looks) after
-  unfolding levelSheet
-  levels-found q c e d m =
-      record {
-        answered = rw (← p, q, ← c, ← e, marked _ room (d .memory) m, d .counted);
-        memory = d .memory ∙ rw (← p, q, ← c, ← e);
-      }
+-- a finding of the hyphenating call, with all judged in the call or only the word
+pub breaks-found : (left right : ℕ) (word customer house table room : List ℕ) {judged judgement : Check} → judged ≡ judgement → judged ≡ Fine
+    → {cells entries after : List ℕ} {marks looks : ℕ} → cells ≡ cellsOf table → entries ≡ entriesOf table
+    → Done (breakSheet left right customer house cells entries rootBase word) (breakLooks customer house cells rootBase word) room looks after → marks ≡ nonzero (take roomSize after)
+    → Answered judgement (breaksSheet left right word customer house table) (breaksLooks word customer house table) room (answers.Found marks looks) after
+unfolding breakSheet
+breaks-found left right word customer house table room p q c e d m =
+    record {
+      answered = rw (← p, q, ← c, ← e, marked _ room (d .memory) m, d .counted);
+      memory = d .memory ∙ rw (← p, q, ← c, ← e);
+    }
 
-module _ (left right : ℕ) (word customer house table room : List ℕ) {judged : Check} (p : judged ≡ judgeHyphenate left right word customer house table (length room)) where
-  pub breaks-refused : {g : Ground} → judged ≡ Refused g → Breaks left right word customer house table room (answers.Refused g) room
-  breaks-refused q = record { answered = rw (← p, q); memory = rw (← p, q) }
+pub levels-sizes : (word table : List ℕ) (size : ℕ) {judged : Check} → judged ≡ judgeLevels word table size → judged ≡ Fine → (length word ≤ wordLimit) × (roomSize ≤ size)
+unfolding judgeLevels
+levels-sizes word table size p q =
+    let a = both-fine (judgeRoom size) _ (sym p ∙ q) in
+    let b = both-fine (judgeWord wordLimit word) (judgeTable table) (a .1) in
+    (word-fits wordLimit word (b .0), room-fits size (a .0))
 
-  pub breaks-sizes : judged ≡ Fine → (length word ≤ wordLimit) × (roomSize ≤ length room)
-  unfolding judgeHyphenate
-  breaks-sizes q =
-      let a = both-fine (judgeMargins left right) _ (sym p ∙ q) in
-      let b = both-fine (judgeRoom (length room)) _ (a .1) in
-      let c = both-fine (judgeWord wordLimit word) _ (b .1) in
-      (word-fits wordLimit word (c .0), room-fits (length room) (b .0))
-
-  pub breaks-found : judged ≡ Fine → {cells entries after : List ℕ} {marks looks : ℕ} → cells ≡ cellsOf table → entries ≡ entriesOf table
-      → Done (breakSheet left right customer house cells entries rootBase word) (breakLooks customer house cells rootBase word) room looks after → marks ≡ nonzero (take roomSize after)
-      → Breaks left right word customer house table room (answers.Found marks looks) after
-  unfolding breakSheet
-  breaks-found q c e d m =
-      record {
-        answered = rw (← p, q, ← c, ← e, marked _ room (d .memory) m, d .counted);
-        memory = d .memory ∙ rw (← p, q, ← c, ← e);
-      }
+pub breaks-sizes : (left right : ℕ) (word customer house table : List ℕ) (size : ℕ) {judged : Check} → judged ≡ judgeHyphenate left right word customer house table size → judged ≡ Fine
+    → (length word ≤ wordLimit) × (roomSize ≤ size)
+unfolding judgeHyphenate
+breaks-sizes left right word customer house table size p q =
+    let a = both-fine (judgeMargins left right) _ (sym p ∙ q) in
+    let b = both-fine (judgeRoom size) _ (a .1) in
+    let c = both-fine (judgeWord wordLimit word) _ (b .1) in
+    (word-fits wordLimit word (c .0), room-fits size (b .0))

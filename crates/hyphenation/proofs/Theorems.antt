@@ -28,7 +28,7 @@ use Rattle.walk.proofs.Count.{looks-few}
 use Rattle.hyphenation.specs.Sheet.{sheet, nonzero, bit}
 use Rattle.hyphenation.specs.Levels.{levelAt, levelSheet, wordLooks}
 use Rattle.hyphenation.specs.Breaks.{breakSheet, unlessListed, breakLooks}
-use Rattle.hyphenation.specs.Calls.{rootBase, judgeRoom, judgeMargins, judgeLevels, judgeHyphenate, answer, roomAfter, Levels, Breaks}
+use Rattle.hyphenation.specs.Calls.{rootBase, judgeRoom, judgeMargins, judgeLevels, judgeHyphenate, answer, roomAfter, Levels, Breaks, WordBreaks}
 use Rattle.hyphenation.proofs.Rooms.{sheet-same}
 use Rattle.hyphenation.specs.declared.Answer.{Answer}
 use Rattle.hyphenation.specs.declared.Answer.the-variants as answers
@@ -192,3 +192,17 @@ module _ (word c h c′ h′ : List ℕ) (own : Agree word c c′) (other : Agre
         a .answered ∙ rw (j, agree-breaks left right (cellsOf table) (entriesOf table) rootBase, agree-count (cellsOf table) rootBase) (sym (b .answered)),
         a .memory ∙ rw (j, agree-breaks left right (cellsOf table) (entriesOf table) rootBase) (sym (b .memory)),
       )
+
+-- Judged once: over margins, a room, lists and a table that were judged good, the call for a word alone keeps the promise of the
+-- hyphenating call.
+alone : (judged : Check) → first judged Fine ≡ judged
+alone Fine = refl
+alone (Refused g) = refl
+
+pub judged-once : (left right : ℕ) (word customer house table room : List ℕ) {r : Answer} {after : List ℕ}
+    → judgeMargins left right ≡ Fine → judgeRoom (length room) ≡ Fine → judgeLists customer house ≡ Fine → judgeTable table ≡ Fine
+    → WordBreaks left right word customer house table room r after → Breaks left right word customer house table room r after
+unfolding judgeHyphenate
+judged-once left right word customer house table room m s l t w =
+    let e : judgeHyphenate left right word customer house table (length room) ≡ judgeWord wordLimit word = rw (m, s, l, t) (alone (judgeWord wordLimit word)) in
+    rw e w

@@ -55,6 +55,11 @@ abbrev pub roomAfter : Check → List ℕ → List ℕ → List ℕ
 roomAfter Fine sheet room = written sheet room
 roomAfter (Refused g) sheet room = room
 
+-- A call returns its answer and leaves its room by one judgement, one sheet and one count of looks.
+pub record Answered (judged : Check) (sheet : List ℕ) (looks : ℕ) (room : List ℕ) (r : Answer) (after : List ℕ) : Type 0 where
+  pub answered : r ≡ answer judged sheet looks
+  pub memory : after ≡ roomAfter judged sheet room
+
 -- What the levels call answers for a room of this size, and what it leaves in a room. It "always walks".
 abbrev pub levelsAnswer : List ℕ → List ℕ → ℕ → Answer
 levelsAnswer word table size = answer (judgeLevels word table size) (levelSheet (cellsOf table) (entriesOf table) rootBase word) (wordLooks (cellsOf table) rootBase word)
@@ -62,24 +67,37 @@ levelsAnswer word table size = answer (judgeLevels word table size) (levelSheet 
 abbrev pub levelsRoom : List ℕ → List ℕ → List ℕ → List ℕ
 levelsRoom word table room = roomAfter (judgeLevels word table (length room)) (levelSheet (cellsOf table) (entriesOf table) rootBase word) room
 
+-- The promise of the levels call.
+abbrev pub Levels : (word table room : List ℕ) → Answer → List ℕ → Type 0
+Levels word table room = Answered (judgeLevels word table (length room))
+    (levelSheet (cellsOf table) (entriesOf table) rootBase word) (wordLooks (cellsOf table) rootBase word) room
+
+-- The hyphenating call's sheet and count over a table.
+abbrev pub breaksSheet : ℕ → ℕ → List ℕ → List ℕ → List ℕ → List ℕ → List ℕ
+breaksSheet left right word customer house table = breakSheet left right customer house (cellsOf table) (entriesOf table) rootBase word
+
+abbrev pub breaksLooks : List ℕ → List ℕ → List ℕ → List ℕ → ℕ
+breaksLooks word customer house table = breakLooks customer house (cellsOf table) rootBase word
+
 -- What the hyphenating call answers for a room of this size, and what it leaves in a room.
 abbrev pub breaksAnswer : ℕ → ℕ → List ℕ → List ℕ → List ℕ → List ℕ → ℕ → Answer
 breaksAnswer left right word customer house table size =
-    answer (judgeHyphenate left right word customer house table size)
-    (breakSheet left right customer house (cellsOf table) (entriesOf table) rootBase word)
-    (breakLooks customer house (cellsOf table) rootBase word)
+    answer (judgeHyphenate left right word customer house table size) (breaksSheet left right word customer house table) (breaksLooks word customer house table)
 
 abbrev pub breaksRoom : ℕ → ℕ → List ℕ → List ℕ → List ℕ → List ℕ → List ℕ → List ℕ
 breaksRoom left right word customer house table room =
-    roomAfter (judgeHyphenate left right word customer house table (length room))
-    (breakSheet left right customer house (cellsOf table) (entriesOf table) rootBase word) room
-
--- The promise of the levels call.
-pub record Levels (word table room : List ℕ) (r : Answer) (after : List ℕ) : Type 0 where
-  pub answered : r ≡ levelsAnswer word table (length room)
-  pub memory : after ≡ levelsRoom word table room
+    roomAfter (judgeHyphenate left right word customer house table (length room)) (breaksSheet left right word customer house table) room
 
 -- The promise of the hyphenating call.
-pub record Breaks (left right : ℕ) (word customer house table room : List ℕ) (r : Answer) (after : List ℕ) : Type 0 where
-  pub answered : r ≡ breaksAnswer left right word customer house table (length room)
-  pub memory : after ≡ breaksRoom left right word customer house table room
+abbrev pub Breaks : (left right : ℕ) (word customer house table room : List ℕ) → Answer → List ℕ → Type 0
+Breaks left right word customer house table room = Answered (judgeHyphenate left right word customer house table (length room))
+    (breaksSheet left right word customer house table) (breaksLooks word customer house table) room
+
+-- The hyphenating call for a word alone, where margins, room, lists and table were judged before: grounds 2, 4 and 3 are left.
+abbrev pub wordAnswer : ℕ → ℕ → List ℕ → List ℕ → List ℕ → List ℕ → Answer
+wordAnswer left right word customer house table =
+    answer (judgeWord wordLimit word) (breaksSheet left right word customer house table) (breaksLooks word customer house table)
+
+abbrev pub WordBreaks : (left right : ℕ) (word customer house table room : List ℕ) → Answer → List ℕ → Type 0
+WordBreaks left right word customer house table room = Answered (judgeWord wordLimit word)
+    (breaksSheet left right word customer house table) (breaksLooks word customer house table) room

@@ -11,7 +11,7 @@ ghost use Rattle.hyphenation.specs.Sheet.{sheet, written, nonzero, bit};
 ghost use Rattle.hyphenation.specs.Levels.{levelSheet, wordLooks};
 ghost use Rattle.hyphenation.specs.Breaks.{mark, breakSheet, breakLooks};
 ghost use Rattle.hyphenation.specs.Post.{Done, lineSheet, oddSheet};
-ghost use Rattle.hyphenation.specs.Calls.{judgeRoom, judgeMargins, judgeLevels, judgeHyphenate, Levels, Breaks};
+ghost use Rattle.hyphenation.specs.Calls.{judgeRoom, judgeMargins, judgeLevels, judgeHyphenate, Levels, Breaks, WordBreaks};
 
 // What a call answers: how many bytes of the room it set, with the count of looks, or why it refuses.
 pub enum Answer {
@@ -273,6 +273,34 @@ pub fn hyphenate<'a>(
     ensures { λ r. ⌜ Breaks left right (now (word .entry)) (now (customer .entry)) (now (house .entry)) (now (table .entry)) (now (room .entry)) r (now (room .exit)) ⌝ }
 {
     let judged = judge_hyphenate(left, right, word, customer, house, table, room.len());
+    if let Check::Refused(g) = judged {
+        return Answer::Refused(g);
+    }
+    let cells = table::cells_of(table);
+    let entries = table::entries_of(table);
+    let looks = breaks_judged(left, right, word, customer, house, cells, entries, 0, room);
+    let marks = count_marks(room);
+    Answer::Found {
+        marks: marks,
+        looks: looks,
+    }
+}
+
+// The hyphenating call for a word, where margins, room, lists and table were judged before: whoever has many words judges these
+// once. Over lists or a table that weren't it still is safe and ends.
+pub fn hyphenate_word<'a>(
+    left: usize,
+    right: usize,
+    word: &[u8],
+    customer: &'a [u8],
+    house: &'a [u8],
+    table: &[u8],
+    room: &mut [u8],
+) -> Answer
+    requires { ⌜ roomSize ≤ length (now room) ⌝ }
+    ensures { λ r. ⌜ WordBreaks left right (now (word .entry)) (now (customer .entry)) (now (house .entry)) (now (table .entry)) (now (room .entry)) r (now (room .exit)) ⌝ }
+{
+    let judged = words::judge_word(word, base::WORD_LIMIT);
     if let Check::Refused(g) = judged {
         return Answer::Refused(g);
     }

@@ -1,6 +1,6 @@
 use borrow.Author.Needs.{needs}
 use native.Mathlib.Omega.{arith}
-use Rattle.hyphenation.proofs.Calls.{breaks-refused, breaks-sizes, breaks-found}
+use Rattle.hyphenation.proofs.Calls.{refused, breaks-sizes, breaks-found}
 use Rattle.hyphenation.proofs.hyphenate.Statement.{statement}
 use Rattle.hyphenation.proofs.hyphenate.Tie as tie
 
@@ -11,7 +11,7 @@ enum-known-judged : tie.Need-enum-known-judged
 enum-known-judged c = search needs
 
 returns : tie.Need-returns
-returns c = breaks-refused _ _ _ _ _ _ _ (c .before .before .before .judge-hyphenate .ensures) (c .before .judged .given .1)
+returns c = refused _ _ _ (c .before .before .before .judge-hyphenate .ensures) (c .before .judged .given .1)
 
 enum-told : tie.Need-enum-told
 enum-told c = search needs
@@ -23,10 +23,10 @@ entries-of-requires : tie.Need-entries-of-requires
 entries-of-requires c κs = search needs
 
 breaks-judged-requires : tie.Need-breaks-judged-requires
-breaks-judged-requires c κs = breaks-sizes _ _ _ _ _ _ (c .before .before .before .before .before .before .before .before .before .before .before .args .room .now) (c .before .before .before .before .before .judge-hyphenate .ensures) (c .before .before .before .enum-told .given .1)
+breaks-judged-requires c κs = breaks-sizes _ _ _ _ _ _ _ (c .before .before .before .before .before .judge-hyphenate .ensures) (c .before .before .before .enum-told .given .1)
 
 count-marks-requires : tie.Need-count-marks-requires
-count-marks-requires c κs = omega (arith, c .before .before .before .breaks-judged .kept, breaks-sizes _ _ _ _ _ _ (c .before .before .before .before .before .before .before .before .before .before .before .before .before .before .before .args .room .now) (c .before .before .before .before .before .before .before .before .before .judge-hyphenate .ensures) (c .before .before .before .before .before .before .before .enum-told .given .1))
+count-marks-requires c κs = omega (arith, c .before .before .before .breaks-judged .kept, breaks-sizes _ _ _ _ _ _ _ (c .before .before .before .before .before .before .before .before .before .judge-hyphenate .ensures) (c .before .before .before .before .before .before .before .enum-told .given .1))
 
 same-length : tie.Need-same-length
 same-length c = search needs
