@@ -1,7 +1,7 @@
 -- The two calls: what their judgements ensure, and how their parts come to their promises.
 use Prim.Native.Nat.{ℕ, _≤_}
 use mathlib.Core.List.{List}
-use mathlib.Core.Path.{_≡_, refl, sym, _∙_, ap}
+use mathlib.Core.Path.{_≡_, sym, _∙_}
 use borrow.Author.Tests.{ltb-false}
 use lib.Dec.{ltb, eqb}
 use lib.ListN.{length, take}
@@ -13,14 +13,12 @@ use Rattle.base.specs.declared.Ground.{Ground}
 use Rattle.base.specs.declared.Ground.the-variants.{RoomShort, WordEmpty, WordLong}
 use Rattle.base.proofs.Grounds.{both-fine, not-refused}
 use Rattle.words.specs.Words.{judgeWord, allLetters}
-use Rattle.lists.specs.Lists.{judgeLists}
 use Rattle.table.specs.Table.{judgeTable, cellsOf, entriesOf}
 use Rattle.hyphenation.specs.Sheet.{sheet, written, nonzero}
 use Rattle.hyphenation.specs.Levels.{levelSheet, wordLooks}
 use Rattle.hyphenation.specs.Breaks.{breakSheet, breakLooks}
 use Rattle.hyphenation.specs.Post.{Done}
-use Rattle.hyphenation.specs.Calls.{rootBase, judgeRoom, judgeMargins, judgeLevels, judgeHyphenate, Answered, answer, roomAfter, breaksSheet, breaksLooks}
-use Rattle.hyphenation.specs.declared.Answer.{Answer}
+use Rattle.hyphenation.specs.Calls.{rootBase, judgeRoom, judgeMargins, judgeLevels, judgeHyphenate, Answered, breaksSheet, breaksLooks}
 use Rattle.hyphenation.specs.declared.Answer.the-variants as answers
 use Rattle.hyphenation.proofs.Rooms.{written-take}
 

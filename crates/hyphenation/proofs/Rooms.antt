@@ -17,8 +17,8 @@ use Rattle.lookup.specs.declared.Located.{Located}
 use Rattle.lookup.specs.declared.Located.the-variants.{Customer, House, Nowhere}
 use Rattle.liang.specs.Breaks.{hyphenAt, levelBreak, breakBy, isBreak}
 use Rattle.walk.specs.Chain.{Setting}
-use Rattle.walk.specs.Walk.{settings, looks}
-use Rattle.walk.specs.Raise.{highestSet, raiseAll}
+use Rattle.walk.specs.Walk.{settings}
+use Rattle.walk.specs.Raise.{raiseAll}
 use Rattle.walk.specs.Post.{Walked}
 use Rattle.walk.proofs.Laws.{raises-length}
 use Rattle.walk.proofs.Raised.{raised-at}

@@ -1,5 +1,5 @@
 -- What the promises of the two calls come to, over any table.
-use Prim.Native.Nat.{ℕ, suc, _+_, _*_, _-_, _≤_}
+use Prim.Native.Nat.{ℕ, _+_, _*_, _-_, _≤_}
 use mathlib.Core.Bool.{Bool}
 use mathlib.Core.List.{List, [], _∷_, map}
 use mathlib.Core.Logic.{_⊎_, inl, inr}
@@ -11,7 +11,7 @@ use Rattle.base.specs.Grounds.{first}
 use Rattle.base.specs.declared.Check.{Check}
 use Rattle.base.specs.declared.Check.the-variants.{Fine, Refused}
 use Rattle.words.specs.Symbols.{lower}
-use Rattle.words.specs.Words.{judgeWord, wordSymbols, rowOf, inner}
+use Rattle.words.specs.Words.{judgeWord, rowOf}
 use Rattle.words.proofs.Laws.{row-length}
 use Rattle.words.proofs.Theorems.{same-judgement, same-symbols, same-length}
 use Rattle.lists.specs.Lists.{judgeLists}
@@ -20,15 +20,14 @@ use Rattle.lookup.specs.declared.Found.{Found}
 use Rattle.lookup.specs.declared.Found.the-variants.{At, Nothing}
 use Rattle.lookup.specs.declared.Located.{Located}
 use Rattle.lookup.specs.declared.Located.the-variants.{Customer, House, Nowhere}
-use Rattle.liang.specs.Breaks.{hyphenAt, levelBreak, breakBy, isBreak}
+use Rattle.liang.specs.Breaks.{levelBreak, breakBy, isBreak}
 use Rattle.table.specs.Table.{judgeTable, cellsOf, entriesOf}
-use Rattle.walk.specs.Walk.{settings, looks}
-use Rattle.walk.specs.Raise.{highestSet}
+use Rattle.walk.specs.Walk.{looks}
 use Rattle.walk.proofs.Count.{looks-few}
 use Rattle.hyphenation.specs.Sheet.{sheet, nonzero, bit}
 use Rattle.hyphenation.specs.Levels.{levelAt, levelSheet, wordLooks}
 use Rattle.hyphenation.specs.Breaks.{breakSheet, unlessListed, breakLooks}
-use Rattle.hyphenation.specs.Calls.{rootBase, judgeRoom, judgeMargins, judgeLevels, judgeHyphenate, answer, roomAfter, Levels, Breaks, WordBreaks}
+use Rattle.hyphenation.specs.Calls.{rootBase, judgeRoom, judgeMargins, judgeLevels, judgeHyphenate, answer, Levels, Breaks, WordBreaks}
 use Rattle.hyphenation.proofs.Rooms.{sheet-same}
 use Rattle.hyphenation.specs.declared.Answer.{Answer}
 use Rattle.hyphenation.specs.declared.Answer.the-variants as answers

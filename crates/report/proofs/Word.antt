@@ -8,7 +8,6 @@ use lib.Dec.{eqb, ltb}
 use lib.ListN.{length, drop, length-append}
 use Rattle.base.specs.Limits.{roomSize, wordLimit}
 use Rattle.base.specs.Grounds.{told}
-use Rattle.base.specs.declared.Check.{Check}
 use Rattle.base.specs.declared.Check.the-variants.{Fine}
 use Rattle.base.specs.declared.Ground.{Ground}
 use Rattle.words.specs.Words.{judgeWord}
@@ -20,9 +19,8 @@ use Rattle.hyphenation.specs.declared.Answer.the-variants as answers
 use Rattle.hyphenation.proofs.Laws.{sheet-length}
 use Rattle.hyphenation.proofs.Calls.{word-fits}
 use Rattle.hyphenation.proofs.Theorems.{finding}
-use Rattle.report.specs.declared.Line.{Line}
 use Rattle.report.specs.Put.{Put}
-use Rattle.report.specs.Report.{question, lineFeed, lineLimit, lastDigit, digits, letterWith, hyphenated, field, listField, refusalLine, wordLine, looksOf, isRefused, Reports}
+use Rattle.report.specs.Report.{question, lineFeed, lineLimit, lastDigit, digits, letterWith, hyphenated, field, listField, refusalLine, Reports}
 use Rattle.report.proofs.Going.{put-as}
 
 -- of two lists, whichever it is, neither is longer
@@ -45,10 +43,15 @@ refusal-short sign g =
     let n = digits-short 19 (told g .number) in
     let l = list-short (told g .list) in
     let p = digits-short 19 (told g .place) in
-    omega (arith, n, l, p,
-    length-append (field (told g .number)) (listField (told g .list) ++ (field (told g .place) ++ (lineFeed ∷ []))),
-    length-append (listField (told g .list)) (field (told g .place) ++ (lineFeed ∷ [])),
-    length-append (field (told g .place)) (lineFeed ∷ []))
+    omega (
+      arith,
+      n,
+      l,
+      p,
+      length-append (field (told g .number)) (listField (told g .list) ++ (field (told g .place) ++ (lineFeed ∷ []))),
+      length-append (listField (told g .list)) (field (told g .place) ++ (lineFeed ∷ [])),
+      length-append (field (told g .place)) (lineFeed ∷ []),
+    )
 
 letter-short : (mark b : ℕ) → length (letterWith mark b) ≤ 2
 letter-short mark b = either-short (eqb mark 0) _ _ 2 (omega arith) (omega arith)
@@ -84,8 +87,13 @@ module _ (left right : ℕ) (word customer house table marks : List ℕ) {answer
 
     pub found-marks : length word ≤ length after
     found-marks =
-        omega (arith, word-fits wordLimit word fine, ap length written-sheet, sheet-long,
-        length-append (breaksSheet left right word customer house table) (drop roomSize marks))
+        omega (
+          arith,
+          word-fits wordLimit word fine,
+          ap length written-sheet,
+          sheet-long,
+          length-append (breaksSheet left right word customer house table) (drop roomSize marks),
+        )
 
     pub found-fits : (at n : ℕ) → at + lineLimit ≤ n → at + length (hyphenated after word ++ (lineFeed ∷ [])) ≤ n
     found-fits at n h = omega (arith, word-fits wordLimit word fine, word-short after word, length-append (hyphenated after word) (lineFeed ∷ []))

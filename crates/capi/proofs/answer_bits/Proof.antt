@@ -3,32 +3,22 @@ use mathlib.Core.Path.{_∙_, ap, sym}
 use borrow.Author.Needs.{needs}
 use Rattle.capi.proofs.answer_bits.Statement.{statement}
 use Rattle.capi.proofs.answer_bits.Tie as tie
-use Rattle.capi.proofs.answer_bits.Reads as reads
-use Rattle.capi.proofs.answer_bits.Lts as lts
-use Rattle.capi.proofs.found_bits.Reads as found-bits-reads
-use Rattle.capi.proofs.refusal_bits.Reads as refusal-bits-reads
 
--- src/lib.rt:69:25
 enum-known-answer : tie.Need-enum-known-answer
 enum-known-answer c = search needs
 
--- src/lib.rt:69:43
 found-bits-requires : tie.Need-found-bits-requires
 found-bits-requires c κs = search needs
 
--- src/lib.rt:70:25
 enum-known-answer-2 : tie.Need-enum-known-answer-2
 enum-known-answer-2 c = search needs
 
--- src/lib.rt:70:31
 refusal-bits-requires : tie.Need-refusal-bits-requires
 refusal-bits-requires c κs = search needs
 
--- src/lib.rt:65:1
 returns : tie.Need-returns
 returns c = c .found-bits .ensures ∙ ap answerBits (sym (c .before .before .answer .given .1))
 
--- src/lib.rt:65:1
 returns-2 : tie.Need-returns-2
 returns-2 c = c .refusal-bits .ensures ∙ ap answerBits (sym (c .before .before .answer2 .given .1))
 

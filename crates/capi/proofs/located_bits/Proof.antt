@@ -3,39 +3,28 @@ use mathlib.Core.Path.{_∙_, ap, sym}
 use borrow.Author.Needs.{needs}
 use Rattle.capi.proofs.located_bits.Statement.{statement}
 use Rattle.capi.proofs.located_bits.Tie as tie
-use Rattle.capi.proofs.located_bits.Reads as reads
-use Rattle.capi.proofs.located_bits.Lts as lts
-use Rattle.capi.proofs.line_bits.Reads as line-bits-reads
 
--- src/lib.rt:103:29
 enum-known-at : tie.Need-enum-known-at
 enum-known-at c = search needs
 
--- src/lib.rt:103:45
 line-bits-requires : tie.Need-line-bits-requires
 line-bits-requires c κs = search needs
 
--- src/lib.rt:104:26
 enum-known-at-2 : tie.Need-enum-known-at-2
 enum-known-at-2 c = search needs
 
--- src/lib.rt:104:42
 line-bits-requires-2 : tie.Need-line-bits-requires-2
 line-bits-requires-2 c κs = search needs
 
--- src/lib.rt:105:29
 enum-told : tie.Need-enum-told
 enum-told c = search needs
 
--- src/lib.rt:99:1
 returns : tie.Need-returns
 returns c = c .line-bits .ensures ∙ ap locatedBits (sym (c .before .before .at .given .1))
 
--- src/lib.rt:99:1
 returns-2 : tie.Need-returns-2
 returns-2 c = c .line-bits2 .ensures ∙ ap locatedBits (sym (c .before .before .at2 .given .1))
 
--- src/lib.rt:99:1
 returns-3 : tie.Need-returns-3
 returns-3 c = search needs
 

@@ -3,32 +3,22 @@ use mathlib.Core.Path.{_∙_, ap, sym}
 use borrow.Author.Needs.{needs}
 use Rattle.capi.proofs.packing_bits.Statement.{statement}
 use Rattle.capi.proofs.packing_bits.Tie as tie
-use Rattle.capi.proofs.packing_bits.Reads as reads
-use Rattle.capi.proofs.packing_bits.Lts as lts
-use Rattle.capi.proofs.refusal_bits.Reads as refusal-bits-reads
-use Rattle.capi.proofs.size_bits.Reads as size-bits-reads
 
--- src/lib.rt:85:23
 enum-known-packing : tie.Need-enum-known-packing
 enum-known-packing c = search needs
 
--- src/lib.rt:85:32
 size-bits-requires : tie.Need-size-bits-requires
 size-bits-requires c κs = search needs
 
--- src/lib.rt:86:26
 enum-known-packing-2 : tie.Need-enum-known-packing-2
 enum-known-packing-2 c = search needs
 
--- src/lib.rt:86:32
 refusal-bits-requires : tie.Need-refusal-bits-requires
 refusal-bits-requires c κs = search needs
 
--- src/lib.rt:81:1
 returns : tie.Need-returns
 returns c = c .size-bits .ensures ∙ ap packingBits (sym (c .before .before .packing .given .1))
 
--- src/lib.rt:81:1
 returns-2 : tie.Need-returns-2
 returns-2 c = c .refusal-bits .ensures ∙ ap packingBits (sym (c .before .before .packing2 .given .1))
 

@@ -3,20 +3,13 @@ use mathlib.Core.Path.{_∙_, ap}
 use borrow.Author.Needs.{needs}
 use Rattle.capi.proofs.tteolmigu_lookup.Statement.{statement}
 use Rattle.capi.proofs.tteolmigu_lookup.Tie as tie
-use Rattle.capi.proofs.tteolmigu_lookup.Reads as reads
-use Rattle.capi.proofs.tteolmigu_lookup.Lts as lts
-use Rattle.capi.proofs.located_bits.Reads as located-bits-reads
-use Rattle.lookup.proofs.locate_line.Reads as locate-line-reads
 
--- src/lib.rt:165:18
 locate-line-requires : tie.Need-locate-line-requires
 locate-line-requires c κs = search needs
 
--- src/lib.rt:165:5
 located-bits-requires : tie.Need-located-bits-requires
 located-bits-requires c κs = search needs
 
--- src/lib.rt:161:1
 returns : tie.Need-returns
 returns c = c .located-bits .ensures ∙ ap locatedBits (c .before .locate-line .ensures)
 

@@ -2,7 +2,7 @@ use borrow.Author.Needs.{needs}
 use Prim.Native.Nat.{_≤_, _+_, _-_}
 use mathlib.Core.Path.{_≡_}
 use native.Mathlib.Omega.{arith}
-use lib.ListN.{length, take}
+use lib.ListN.{take}
 use Rattle.base.specs.Limits.{roomSize}
 use Rattle.hyphenation.specs.Sheet.{nonzero}
 use Rattle.hyphenation.proofs.Laws.{countFrom, count-start, count-zero, count-one, count-end}

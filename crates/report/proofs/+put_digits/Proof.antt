@@ -1,7 +1,6 @@
 use borrow.Author.Needs.{needs}
 use native.Mathlib.Omega.{arith}
-use mathlib.Core.List.{[]}
-use mathlib.Core.Path.{refl, ap}
+use mathlib.Core.Path.{ap}
 use lib.ListN.{length}
 use Rattle.report.proofs.Going.{put-as}
 use Rattle.report.proofs.Laws.{digits-one, digits-small, digits-fit, last-fits, digits-put}
@@ -26,7 +25,6 @@ abbrev put-digits-below : ℕ → In 1 put-digits-kinds.ps
 put-digits-below t =
     and 1 put-digits-kinds.ps (falls 1 put-digits-kinds.ps _<_ μ-put-digits t) put-digits.Pre
 
--- src/lib.rt:40:22
 put-digits-cast-digit : (t : ℕ) → put-digits-lts.Need-cast-digit (
   put-byte-reads.Asked,
   put-byte-reads.Learnt,
@@ -35,7 +33,6 @@ put-digits-cast-digit : (t : ℕ) → put-digits-lts.Need-cast-digit (
 ) (put-digits-at t) put-digits.Post
 put-digits-cast-digit t c = search needs
 
--- src/lib.rt:40:17
 put-digits-add-digit : (t : ℕ) → put-digits-lts.Need-add-digit (
   put-byte-reads.Asked,
   put-byte-reads.Learnt,
@@ -44,7 +41,6 @@ put-digits-add-digit : (t : ℕ) → put-digits-lts.Need-add-digit (
 ) (put-digits-at t) put-digits.Post
 put-digits-add-digit t c = search needs
 
--- src/lib.rt:42:9
 put-digits-put-byte-requires : (t : ℕ) → put-digits-lts.Need-put-byte-requires (
   put-byte-reads.Asked,
   put-byte-reads.Learnt,
@@ -53,7 +49,6 @@ put-digits-put-byte-requires : (t : ℕ) → put-digits-lts.Need-put-byte-requir
 ) (put-digits-at t) put-digits.Post
 put-digits-put-byte-requires t c κs = omega (arith, c .before .before .before .pre .1, ap length (digits-one _ (c .before .before .before .args .n) (c .before .if1 .taken)))
 
--- src/lib.rt:42:9
 put-digits-same-length : (t : ℕ) → put-digits-lts.Need-same-length (
   put-byte-reads.Asked,
   put-byte-reads.Learnt,
@@ -62,7 +57,6 @@ put-digits-same-length : (t : ℕ) → put-digits-lts.Need-same-length (
 ) (put-digits-at t) put-digits.Post
 put-digits-same-length t c = search needs
 
--- src/lib.rt:42:9
 put-digits-returns : (t : ℕ) → put-digits-lts.Need-returns (
   put-byte-reads.Asked,
   put-byte-reads.Learnt,
@@ -71,7 +65,6 @@ put-digits-returns : (t : ℕ) → put-digits-lts.Need-returns (
 ) (put-digits-at t) put-digits.Post
 put-digits-returns t c = put-as (digits-one _ _ (c .before .before .before .before .if1 .taken)) (c .before .before .put-byte .ensures)
 
--- src/lib.rt:45:9
 put-digits-put-byte-requires-2 : (t : ℕ) → put-digits-lts.Need-put-byte-requires-2 (
   put-byte-reads.Asked,
   put-byte-reads.Learnt,
@@ -80,7 +73,6 @@ put-digits-put-byte-requires-2 : (t : ℕ) → put-digits-lts.Need-put-byte-requ
 ) (put-digits-at t) put-digits.Post
 put-digits-put-byte-requires-2 t c κs = omega (arith, c .before .before .before .before .pre .1, ap length (digits-small (c .before .before .before .before .args .more) _ (c .before .if2 .taken)))
 
--- src/lib.rt:45:9
 put-digits-same-length-2 : (t : ℕ) → put-digits-lts.Need-same-length-2 (
   put-byte-reads.Asked,
   put-byte-reads.Learnt,
@@ -89,7 +81,6 @@ put-digits-same-length-2 : (t : ℕ) → put-digits-lts.Need-same-length-2 (
 ) (put-digits-at t) put-digits.Post
 put-digits-same-length-2 t c = search needs
 
--- src/lib.rt:45:9
 put-digits-returns-2 : (t : ℕ) → put-digits-lts.Need-returns-2 (
   put-byte-reads.Asked,
   put-byte-reads.Learnt,
@@ -98,7 +89,6 @@ put-digits-returns-2 : (t : ℕ) → put-digits-lts.Need-returns-2 (
 ) (put-digits-at t) put-digits.Post
 put-digits-returns-2 t c = put-as (digits-small _ _ (c .before .before .before .before .if2 .taken)) (c .before .before .put-byte2 .ensures)
 
--- src/lib.rt:47:26
 put-digits-sub-put-digits : (t : ℕ) → put-digits-lts.Need-sub-put-digits (
   put-byte-reads.Asked,
   put-byte-reads.Learnt,
@@ -107,7 +97,6 @@ put-digits-sub-put-digits : (t : ℕ) → put-digits-lts.Need-sub-put-digits (
 ) (put-digits-at t) put-digits.Post
 put-digits-sub-put-digits t c = search needs
 
--- src/lib.rt:47:9
 put-digits-put-digits-requires : (t : ℕ) → put-digits-lts.Need-put-digits-requires (
   put-byte-reads.Asked,
   put-byte-reads.Learnt,
@@ -116,7 +105,6 @@ put-digits-put-digits-requires : (t : ℕ) → put-digits-lts.Need-put-digits-re
 ) (put-digits-at t) put-digits.Post
 put-digits-put-digits-requires t c κs = (omega (arith, c .before .before .before .before .pre .0, c .before .before .if1 .left), digits-fit _ _ _ (c .before .before .before .before .args .room .now) (c .before .before .if1 .left) (c .before .if2 .left) (c .before .before .before .before .pre .1))
 
--- src/lib.rt:48:5
 put-digits-put-byte-requires-3 : (t : ℕ) → put-digits-lts.Need-put-byte-requires-3 (
   put-byte-reads.Asked,
   put-byte-reads.Learnt,
@@ -125,7 +113,6 @@ put-digits-put-byte-requires-3 : (t : ℕ) → put-digits-lts.Need-put-byte-requ
 ) (put-digits-at t) put-digits.Post
 put-digits-put-byte-requires-3 t c κs = last-fits _ _ _ (c .before .before .before .before .before .before .before .before .args .room .now) (c .before .before .before .before .before .before .if1 .left) (c .before .before .before .before .before .if2 .left) (c .before .before .before .before .before .before .before .before .pre .1) (c .before .before .before .put-digits .ensures)
 
--- src/lib.rt:36:1
 put-digits-same-length-3 : (t : ℕ) → put-digits-lts.Need-same-length-3 (
   put-byte-reads.Asked,
   put-byte-reads.Learnt,
@@ -134,7 +121,6 @@ put-digits-same-length-3 : (t : ℕ) → put-digits-lts.Need-same-length-3 (
 ) (put-digits-at t) put-digits.Post
 put-digits-same-length-3 t c = search needs
 
--- src/lib.rt:36:1
 put-digits-returns-3 : (t : ℕ) → put-digits-lts.Need-returns-3 (
   put-byte-reads.Asked,
   put-byte-reads.Learnt,

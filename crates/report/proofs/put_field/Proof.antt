@@ -2,24 +2,16 @@ use Rattle.report.proofs.Laws.{space-fits, decimal-fits, field-put}
 use borrow.Author.Needs.{needs}
 use Rattle.report.proofs.put_field.Statement.{statement}
 use Rattle.report.proofs.put_field.Tie as tie
-use Rattle.report.proofs.put_field.Reads as reads
-use Rattle.report.proofs.put_field.Lts as lts
-use Rattle.report.proofs.put_byte.Reads as put-byte-reads
-use Rattle.report.proofs.put_decimal.Reads as put-decimal-reads
 
--- src/lib.rt:64:9
 put-byte-requires : tie.Need-put-byte-requires
 put-byte-requires c κs = space-fits (c .before .before .args .n) _ (c .before .before .args .room .now) (c .before .before .pre)
 
--- src/lib.rt:65:5
 put-decimal-requires : tie.Need-put-decimal-requires
 put-decimal-requires c κs = decimal-fits _ _ (c .before .before .before .before .before .before .args .room .now) (c .before .before .before .before .before .before .pre) (c .before .before .before .put-byte .ensures)
 
--- src/lib.rt:60:1
 same-length : tie.Need-same-length
 same-length c = search needs
 
--- src/lib.rt:60:1
 returns : tie.Need-returns
 returns c = field-put _ _ _ (c .before .before .before .before .before .before .before .before .before .pre) (c .before .before .before .before .before .before .put-byte .ensures) (c .before .before .put-decimal .ensures)
 

@@ -2,40 +2,29 @@ use Rattle.report.proofs.Laws.{letter-plain, hyphen-fits, letter-fits, 
 use Rattle.report.proofs.Going.{put-as}
 use lib.ListN.{length}
 use mathlib.Core.Path.{ap}
-use mathlib.Core.List.{[], _∷_}
 use native.Mathlib.Omega.{arith}
 use borrow.Author.Needs.{needs}
 use Rattle.report.proofs.put_letter.Statement.{statement}
 use Rattle.report.proofs.put_letter.Tie as tie
-use Rattle.report.proofs.put_letter.Reads as reads
-use Rattle.report.proofs.put_letter.Lts as lts
-use Rattle.report.proofs.put_byte.Reads as put-byte-reads
 
--- src/lib.rt:97:9
 put-byte-requires : tie.Need-put-byte-requires
 put-byte-requires c κs = omega (arith, c .before .before .before .pre, ap length (letter-plain _ (c .before .before .before .args .b) (c .before .if1 .taken)))
 
--- src/lib.rt:97:9
 same-length : tie.Need-same-length
 same-length c = search needs
 
--- src/lib.rt:97:9
 returns : tie.Need-returns
 returns c = put-as (letter-plain _ _ (c .before .before .before .before .if1 .taken)) (c .before .before .put-byte .ensures)
 
--- src/lib.rt:99:9
 put-byte-requires-2 : tie.Need-put-byte-requires-2
 put-byte-requires-2 c κs = hyphen-fits _ (c .before .before .before .args .b) _ (c .before .before .before .args .room .now) (c .before .if1 .left) (c .before .before .before .pre)
 
--- src/lib.rt:100:5
 put-byte-requires-3 : tie.Need-put-byte-requires-3
 put-byte-requires-3 c κs = letter-fits _ (c .before .before .before .before .before .before .before .args .b) _ (c .before .before .before .before .before .before .before .args .room .now) (c .before .before .before .before .before .if1 .left) (c .before .before .before .before .before .before .before .pre) (c .before .before .before .put-byte2 .ensures)
 
--- src/lib.rt:92:1
 same-length-2 : tie.Need-same-length-2
 same-length-2 c = search needs
 
--- src/lib.rt:92:1
 returns-2 : tie.Need-returns-2
 returns-2 c = letter-put _ _ _ _ (c .before .before .before .before .before .before .before .before .if1 .left) (c .before .before .before .before .before .before .before .before .before .before .pre) (c .before .before .before .before .before .before .put-byte2 .ensures) (c .before .before .put-byte3 .ensures)
 

@@ -2,24 +2,16 @@ use Rattle.report.proofs.Laws.{line-fits, feed-fits, line-put}
 use borrow.Author.Needs.{needs}
 use Rattle.report.proofs.put_line.Statement.{statement}
 use Rattle.report.proofs.put_line.Tie as tie
-use Rattle.report.proofs.put_line.Reads as reads
-use Rattle.report.proofs.put_line.Lts as lts
-use Rattle.report.proofs.put_byte.Reads as put-byte-reads
-use Rattle.report.proofs.put_hyphenated.Reads as put-hyphenated-reads
 
--- src/lib.rt:140:9
 put-hyphenated-requires : tie.Need-put-hyphenated-requires
 put-hyphenated-requires c κs = (c .before .before .before .before .pre .0, line-fits _ (c .before .before .before .before .args .word .now) _ (c .before .before .before .before .args .room .now) (c .before .before .before .before .pre .1))
 
--- src/lib.rt:141:5
 put-byte-requires : tie.Need-put-byte-requires
 put-byte-requires c κs = feed-fits _ _ _ (c .before .before .before .before .before .before .before .before .args .room .now) (c .before .before .before .before .before .before .before .before .pre .1) (c .before .before .before .put-hyphenated .ensures)
 
--- src/lib.rt:136:1
 same-length : tie.Need-same-length
 same-length c = search needs
 
--- src/lib.rt:136:1
 returns : tie.Need-returns
 returns c = line-put _ _ _ _ (c .before .before .before .before .before .before .before .before .before .before .before .pre .1) (c .before .before .before .before .before .before .put-hyphenated .ensures) (c .before .before .put-byte .ensures)
 

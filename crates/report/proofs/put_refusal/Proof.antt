@@ -6,34 +6,22 @@ use native.Mathlib.Omega.{arith}
 use borrow.Author.Needs.{needs}
 use Rattle.report.proofs.put_refusal.Statement.{statement}
 use Rattle.report.proofs.put_refusal.Tie as tie
-use Rattle.report.proofs.put_refusal.Reads as reads
-use Rattle.report.proofs.put_refusal.Lts as lts
-use Rattle.base.proofs.list_of.Reads as list-of-reads
-use Rattle.base.proofs.number_of.Reads as number-of-reads
-use Rattle.base.proofs.place_of.Reads as place-of-reads
-use Rattle.report.proofs.put_told.Reads as put-told-reads
 
--- src/lib.rt:96:9
 number-of-requires : tie.Need-number-of-requires
 number-of-requires c κs = search needs
 
--- src/lib.rt:97:9
 list-of-requires : tie.Need-list-of-requires
 list-of-requires c κs = search needs
 
--- src/lib.rt:98:9
 place-of-requires : tie.Need-place-of-requires
 place-of-requires c κs = search needs
 
--- src/lib.rt:99:5
 put-told-requires : tie.Need-put-told-requires
 put-told-requires c κs = omega (arith, c .before .before .before .before .before .pre, ap length (told-same (c .before .before .before .before .before .args .sign) (c .before .before .before .number-of .ensures) (c .before .before .list-of .ensures) (c .before .place-of .ensures)))
 
--- src/lib.rt:92:1
 same-length : tie.Need-same-length
 same-length c = search needs
 
--- src/lib.rt:92:1
 returns : tie.Need-returns
 returns c = put-as (told-same _ (c .before .before .before .before .before .before .number-of .ensures) (c .before .before .before .before .before .list-of .ensures) (c .before .before .before .before .place-of .ensures)) (c .before .before .put-told .ensures)
 

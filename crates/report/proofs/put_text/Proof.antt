@@ -1,16 +1,10 @@
 use Rattle.report.proofs.Laws.{text-fits, text-step}
 use Rattle.report.proofs.Going.{Going, go-start, go-end}
-use lib.ListN.{length, drop, getD, drop-of-length-le}
-use mathlib.Core.Path.{sym, _∙_}
-use mathlib.Core.List.{[], _∷_}
-use native.Mathlib.Omega.{arith}
-use Prim.Native.Nat.{_≤_, _-_, _+_}
+use lib.ListN.{length, drop, drop-of-length-le}
+use Prim.Native.Nat.{_≤_, _-_}
 use borrow.Author.Needs.{needs}
 use Rattle.report.proofs.put_text.Statement.{statement}
 use Rattle.report.proofs.put_text.Tie as tie
-use Rattle.report.proofs.put_text.Reads as reads
-use Rattle.report.proofs.put_text.Lts as lts
-use Rattle.report.proofs.put_byte.Reads as put-byte-reads
 
 abbrev Inv-loop : tie.InvT-loop
 Inv-loop text room₀ at end₀ i₀ room end i = (i ≤ length text) × Going text at room₀ (drop i text) end room
@@ -18,35 +12,27 @@ Inv-loop text room₀ at end₀ i₀ room end i = (i ≤ length text) × Going t
 abbrev μ-loop : tie.MeasureT-loop
 μ-loop text room₀ at end₀ i₀ room end i = length text - i
 
--- src/lib.rt:28:5
 loop-holds : tie.Need-loop-holds Inv-loop μ-loop
 loop-holds c = (search needs, go-start _ _ _ (c .before .before .pre))
 
--- src/lib.rt:29:24
 shared-slice-read-put-byte : tie.Need-shared-slice-read-put-byte Inv-loop μ-loop
 shared-slice-read-put-byte c = search needs
 
--- src/lib.rt:29:9
 put-byte-requires : tie.Need-put-byte-requires Inv-loop μ-loop
 put-byte-requires c κs = text-fits _ _ (c .before .before .loop-test .taken) (c .before .before .before .loop .room) (c .before .before .before .loop .inv .1)
 
--- src/lib.rt:30:9
 add-i : tie.Need-add-i Inv-loop μ-loop
 add-i c = search needs
 
--- src/lib.rt:28:5
 loop-less : tie.Need-loop-less Inv-loop μ-loop
 loop-less c = search needs
 
--- src/lib.rt:28:5
 loop-again : tie.Need-loop-again Inv-loop μ-loop
 loop-again c = (search needs, text-step _ _ (c .before .before .before .before .before .loop-test .taken) _ (c .before .before .before .before .before .before .loop .inv .1) (c .before .before .put-byte .ensures))
 
--- src/lib.rt:22:1
 same-length : tie.Need-same-length Inv-loop μ-loop
 same-length c = c .before .loop .inv .1 .kept
 
--- src/lib.rt:22:1
 returns : tie.Need-returns Inv-loop μ-loop
 returns c = go-end (drop-of-length-le _ (c .loop-test .left)) (c .before .loop .inv .1)
 

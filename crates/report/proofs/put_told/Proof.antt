@@ -2,37 +2,25 @@ use Rattle.report.proofs.Laws.{sign-fits, number-fits, list-fits, place
 use borrow.Author.Needs.{needs}
 use Rattle.report.proofs.put_told.Statement.{statement}
 use Rattle.report.proofs.put_told.Tie as tie
-use Rattle.report.proofs.put_told.Reads as reads
-use Rattle.report.proofs.put_told.Lts as lts
-use Rattle.report.proofs.put_byte.Reads as put-byte-reads
-use Rattle.report.proofs.put_field.Reads as put-field-reads
-use Rattle.report.proofs.put_list.Reads as put-list-reads
 
--- src/lib.rt:84:9
 put-byte-requires : tie.Need-put-byte-requires
 put-byte-requires c κs = sign-fits (c .before .before .args .sign) (c .before .before .args .number) (c .before .before .args .list) (c .before .before .args .place) _ (c .before .before .args .room .now) (c .before .before .pre)
 
--- src/lib.rt:85:9
 put-field-requires : tie.Need-put-field-requires
 put-field-requires c κs = number-fits (c .before .before .before .before .before .before .args .sign) (c .before .before .before .before .before .before .args .number) (c .before .before .before .before .before .before .args .list) (c .before .before .before .before .before .before .args .place) _ (c .before .before .before .before .before .before .args .room .now) (c .before .before .before .before .before .before .pre) (c .before .before .before .put-byte .ensures)
 
--- src/lib.rt:86:9
 put-list-requires : tie.Need-put-list-requires
 put-list-requires c κs = list-fits (c .before .before .before .before .before .before .before .before .before .before .args .sign) (c .before .before .before .before .before .before .before .before .before .before .args .number) (c .before .before .before .before .before .before .before .before .before .before .args .list) (c .before .before .before .before .before .before .before .before .before .before .args .place) _ (c .before .before .before .before .before .before .before .before .before .before .args .room .now) (c .before .before .before .before .before .before .before .before .before .before .pre) (c .before .before .before .before .before .before .before .put-byte .ensures) (c .before .before .before .put-field .ensures)
 
--- src/lib.rt:87:9
 put-field-requires-2 : tie.Need-put-field-requires-2
 put-field-requires-2 c κs = place-fits (c .before .before .before .before .before .before .before .before .before .before .before .before .before .before .args .sign) (c .before .before .before .before .before .before .before .before .before .before .before .before .before .before .args .number) (c .before .before .before .before .before .before .before .before .before .before .before .before .before .before .args .list) (c .before .before .before .before .before .before .before .before .before .before .before .before .before .before .args .place) _ (c .before .before .before .before .before .before .before .before .before .before .before .before .before .before .args .room .now) (c .before .before .before .before .before .before .before .before .before .before .before .before .before .before .pre) (c .before .before .before .before .before .before .before .before .before .before .before .put-byte .ensures) (c .before .before .before .before .before .before .before .put-field .ensures) (c .before .before .before .put-list .ensures)
 
--- src/lib.rt:88:5
 put-byte-requires-2 : tie.Need-put-byte-requires-2
 put-byte-requires-2 c κs = end-fits (c .before .before .before .before .before .before .before .before .before .before .before .before .before .before .before .before .before .before .args .sign) (c .before .before .before .before .before .before .before .before .before .before .before .before .before .before .before .before .before .before .args .number) (c .before .before .before .before .before .before .before .before .before .before .before .before .before .before .before .before .before .before .args .list) (c .before .before .before .before .before .before .before .before .before .before .before .before .before .before .before .before .before .before .args .place) _ (c .before .before .before .before .before .before .before .before .before .before .before .before .before .before .before .before .before .before .args .room .now) (c .before .before .before .before .before .before .before .before .before .before .before .before .before .before .before .before .before .before .pre) (c .before .before .before .before .before .before .before .before .before .before .before .before .before .before .before .put-byte .ensures) (c .before .before .before .before .before .before .before .before .before .before .before .put-field .ensures) (c .before .before .before .before .before .before .before .put-list .ensures) (c .before .before .before .put-field2 .ensures)
 
--- src/lib.rt:80:1
 same-length : tie.Need-same-length
 same-length c = search needs
 
--- src/lib.rt:80:1
 returns : tie.Need-returns
 returns c = told-put _ (c .before .before .before .before .before .before .before .before .before .before .before .before .before .before .before .before .before .before .before .before .before .args .number) (c .before .before .before .before .before .before .before .before .before .before .before .before .before .before .before .before .before .before .before .before .before .args .list) (c .before .before .before .before .before .before .before .before .before .before .before .before .before .before .before .before .before .before .before .before .before .args .place) _ _ (c .before .before .before .before .before .before .before .before .before .before .before .before .before .before .before .before .before .before .before .before .before .pre) (c .before .before .before .before .before .before .before .before .before .before .before .before .before .before .before .before .before .before .put-byte .ensures) (c .before .before .before .before .before .before .before .before .before .before .before .before .before .before .put-field .ensures) (c .before .before .before .before .before .before .before .before .before .before .put-list .ensures) (c .before .before .before .before .before .before .put-field2 .ensures) (c .before .before .put-byte2 .ensures)
 
