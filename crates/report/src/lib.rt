@@ -9,6 +9,9 @@ ghost use Rattle.base.specs.Limits.{roomSize};
 ghost use Rattle.report.specs.Put.{Put};
 ghost use Rattle.report.specs.Report.{lineFeed, lineLimit, digits, decimal, letterWith, hyphenated, field, listField, toldLine, refusalLine, Reports};
 
+// Every line of a word fits into this many bytes (specs/Report.antt, lineLimit).
+pub const LINE: usize = 128;
+
 // What came of a word: where its line ends, how many cells were looked at, and whether it was refused.
 pub struct Line {
     pub end: usize,

@@ -1,4 +1,5 @@
-// Files that a program's arguments name.
+// What the programs share: files that arguments name, and the line of a refusal.
+use base::Ground;
 ghost use Prim.Native.Nat.{_≤_};
 ghost use lib.ListN.{length};
 
@@ -75,4 +76,11 @@ pub fn read_argument(i: usize, bytes: &mut [u8]) -> Read
     let read = read_all(file, bytes);
     libc::close(file);
     read
+}
+
+// A list, a table or a packing is refused: "!", number and place.
+pub fn print_refusal(ground: Ground) {
+    let mut line = [0u8; 128];
+    let end = report::put_refusal(33, ground, &mut line, 0);
+    io::write_all(1, &line[0..end]);
 }

@@ -1,0 +1,276 @@
+// Breaks words. Its arguments are a pattern file, the customer's exception file and the house exception file; the words come on
+// standard input, one a line, and go to standard output with a hyphen at every break.
+use base::Check;
+use packer::Packing;
+ghost use Prim.Native.Nat.{_+_, _≤_};
+ghost use lib.ListN.{length};
+ghost use Rattle.report.specs.Report.{lineLimit};
+ghost use Rattle.hyphenate.specs.State.{Holds};
+
+// The left and the right margin.
+const LEFT: usize = 2;
+
+const RIGHT: usize = 3;
+
+// How far the words have come: bytes of the present line that are held, bytes of lines not yet written, and the sums. `stopped`
+// says that nothing more is to be read, `failed` that something could not be read or written.
+struct State {
+    held: usize,
+    at: usize,
+    words: u64,
+    refused: u64,
+    probes: u64,
+    stopped: bool,
+    failed: bool,
+}
+
+// Where the next line goes, and whether a write failed.
+struct Space {
+    at: usize,
+    failed: bool,
+}
+
+// Writes the lines that are ready where another might not fit behind them.
+fn make_space(out: &[u8], at: usize) -> Space
+    requires { ⌜ (at ≤ length (now out)) × (lineLimit ≤ length (now out)) ⌝ }
+    ensures { λ r. ⌜ r .at + lineLimit ≤ length (now (out .entry)) ⌝ }
+{
+    if out.len() - at < report::LINE {
+        let written = io::write_all(1, &out[0..at]);
+        return Space {
+            at: 0,
+            failed: !written,
+        };
+    }
+    Space {
+        at: at,
+        failed: false,
+    }
+}
+
+// A number, and 1 more where a fact holds.
+fn count_if(n: u64, fact: bool) -> u64 {
+    if fact {
+        return std::num::wrapping_add_u64(n, 1);
+    }
+    n
+}
+
+// The line has ended: its word's line is made ready.
+fn end_line<'a>(
+    customer: &'a [u8],
+    house: &'a [u8],
+    table: &[u8],
+    held: &[u8],
+    marks: &mut [u8],
+    out: &mut [u8],
+    s: State,
+) -> State
+    requires { ⌜ Holds s (now held) (now marks) (now out) ⌝ }
+    ensures { λ r. ⌜ Holds r (now (held .entry)) (now (marks .exit)) (now (out .exit)) ⌝ }
+{
+    let n = s.held;
+    let space = make_space(out, s.at);
+    let line = report::put_word(
+        LEFT,
+        RIGHT,
+        &held[0..n],
+        customer,
+        house,
+        table,
+        marks,
+        out,
+        space.at,
+    );
+    State {
+        held: 0,
+        at: line.end,
+        words: std::num::wrapping_add_u64(s.words, 1),
+        refused: count_if(s.refused, line.refused),
+        probes: std::num::wrapping_add_u64(s.probes, line.looks as u64),
+        stopped: s.stopped || space.failed,
+        failed: s.failed || space.failed,
+    }
+}
+
+// One byte of the words. Only the first bytes of a line are held: where it has more of them than a word may have, they show it.
+fn take_byte<'a>(
+    b: u8,
+    customer: &'a [u8],
+    house: &'a [u8],
+    table: &[u8],
+    held: &mut [u8],
+    marks: &mut [u8],
+    out: &mut [u8],
+    s: State,
+) -> State
+    requires { ⌜ Holds s (now held) (now marks) (now out) ⌝ }
+    ensures { λ r. ⌜ Holds r (now (held .exit)) (now (marks .exit)) (now (out .exit)) ⌝ }
+{
+    if b == 10 {
+        return end_line(customer, house, table, held, marks, out, s);
+    }
+    let mut next = s;
+    let n = s.held;
+    if n < held.len() {
+        held[n] = b;
+        next.held = n + 1;
+    }
+    next
+}
+
+// A piece of the words.
+fn take_piece<'a>(
+    piece: &[u8],
+    customer: &'a [u8],
+    house: &'a [u8],
+    table: &[u8],
+    held: &mut [u8],
+    marks: &mut [u8],
+    out: &mut [u8],
+    s: State,
+) -> State
+    requires { ⌜ Holds s (now held) (now marks) (now out) ⌝ }
+    ensures { λ r. ⌜ Holds r (now (held .exit)) (now (marks .exit)) (now (out .exit)) ⌝ }
+{
+    let mut next = s;
+    let mut i = 0;
+    while i < piece.len() {
+        next = take_byte(piece[i], customer, house, table, held, marks, out, next);
+        i += 1;
+    }
+    next
+}
+
+// Reads a piece of the words, if there is one.
+fn read_piece<'a>(
+    customer: &'a [u8],
+    house: &'a [u8],
+    table: &[u8],
+    held: &mut [u8],
+    marks: &mut [u8],
+    out: &mut [u8],
+    s: State,
+) -> State
+    requires { ⌜ Holds s (now held) (now marks) (now out) ⌝ }
+    ensures { λ r. ⌜ Holds r (now (held .exit)) (now (marks .exit)) (now (out .exit)) ⌝ }
+{
+    let mut buffer = io::large_buffer();
+    let got = libc::read(0, &mut buffer);
+    let n = io::count(got, &buffer);
+    let mut next = s;
+    if n == 0 {
+        next.stopped = true;
+        next.failed = s.failed || got < 0;
+        return next;
+    }
+    take_piece(&buffer[..n], customer, house, table, held, marks, out, next)
+}
+
+// All words, up to the end of the input. A proved loop has to end, and nothing says that the input does: so it counts its turns
+// down, from a number that no run uses up.
+fn take_words<'a>(
+    customer: &'a [u8],
+    house: &'a [u8],
+    table: &[u8],
+    held: &mut [u8],
+    marks: &mut [u8],
+    out: &mut [u8],
+    s: State,
+) -> State
+    requires { ⌜ Holds s (now held) (now marks) (now out) ⌝ }
+    ensures { λ r. ⌜ Holds r (now (held .exit)) (now (marks .exit)) (now (out .exit)) ⌝ }
+{
+    let mut next = s;
+    let mut turns = u64::MAX;
+    while turns > 0 {
+        turns -= 1;
+        next = read_piece(customer, house, table, held, marks, out, next);
+        if next.stopped {
+            turns = 0;
+        }
+    }
+    if next.held > 0 {
+        next = end_line(customer, house, table, held, marks, out, next);
+    }
+    next
+}
+
+// The last line.
+fn print_sums(words: u64, refused: u64, probes: u64) {
+    io::write_all(1, b"words ");
+    io::print_decimal(1, words);
+    io::write_all(1, b" refused ");
+    io::print_decimal(1, refused);
+    io::write_all(1, b" probes ");
+    io::print_decimal(1, probes);
+    io::write_all(1, b"\n");
+}
+
+// The words over judged lists and a packed table. Without the last line the words were not all read or written.
+fn print_words<'a>(customer: &'a [u8], house: &'a [u8], table: &[u8]) {
+    let mut held = [0u8; 64];
+    let mut marks = [0u8; 64];
+    let mut out = io::large_buffer();
+    let start = State {
+        held: 0,
+        at: 0,
+        words: 0,
+        refused: 0,
+        probes: 0,
+        stopped: false,
+        failed: false,
+    };
+    let end = take_words(
+        customer,
+        house,
+        table,
+        &mut held,
+        &mut marks,
+        &mut out,
+        start,
+    );
+    let at = end.at;
+    let written = io::write_all(1, &out[0..at]);
+    if written && !end.failed {
+        print_sums(end.words, end.refused, end.probes);
+    }
+}
+
+// The words over lists that aren't judged yet.
+fn run<'a>(patterns: &[u8], customer: &'a [u8], house: &'a [u8]) {
+    let mut room = io::large_buffer();
+    let packing = packer::pack(patterns, &mut room);
+    if let Packing::Refused(g) = packing {
+        console::print_refusal(g);
+        return;
+    }
+    let judged = lists::judge_lists(customer, house);
+    if let Check::Refused(g) = judged {
+        console::print_refusal(g);
+        return;
+    }
+    if let Packing::Done(size) = packing {
+        if size <= room.len() {
+            print_words(customer, house, &room[0..size]);
+        }
+    }
+}
+
+// A file is read with room for one byte more than its limit, so that a longer one is told from one that has just as many.
+fn main() {
+    let mut patterns = [0u8; 32769];
+    let mut customer = [0u8; 8193];
+    let mut house = [0u8; 8193];
+    let first = console::read_argument(1, &mut patterns);
+    let second = console::read_argument(2, &mut customer);
+    let third = console::read_argument(3, &mut house);
+    if !(first.done && second.done && third.done) {
+        io::write_all(1, b"! 0 0\n");
+        return;
+    }
+    let p = first.size;
+    let c = second.size;
+    let h = third.size;
+    run(&patterns[0..p], &customer[0..c], &house[0..h]);
+}
