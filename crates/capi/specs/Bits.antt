@@ -1,5 +1,5 @@
 -- How an answer stands in the 64 bits that a C function returns. include/tteolmigu.h says the same to a reader of C.
-use Prim.Native.Nat.{ℕ, _+_, _*_, _-_, _%_, _^_}
+use Prim.Native.Nat.{ℕ, _+_, _*_, _-_, _/_, _%_, _^_}
 use Rattle.base.specs.Limits.{customerList, houseList}
 use Rattle.base.specs.Grounds.{told}
 use Rattle.base.specs.declared.Check.{Check}
@@ -50,3 +50,31 @@ abbrev pub locatedBits : Located → ℕ
 locatedBits (Customer start end) = lineBits customerList start end
 locatedBits (House start end) = lineBits houseList start end
 locatedBits Nowhere = 0
+
+-- What the header's accessors read of a returned number.
+abbrev pub readBits : ℕ → ℕ → ℕ → ℕ
+readBits low width bits = bits / 2 ^ low % 2 ^ width
+
+abbrev pub numberIn : ℕ → ℕ
+numberIn bits = readBits 56 8 bits
+
+abbrev pub listIn : ℕ → ℕ
+listIn bits = readBits 48 8 bits
+
+abbrev pub placeIn : ℕ → ℕ
+placeIn bits = readBits 0 48 bits
+
+abbrev pub marksIn : ℕ → ℕ
+marksIn bits = readBits 32 16 bits
+
+abbrev pub looksIn : ℕ → ℕ
+looksIn bits = readBits 0 32 bits
+
+abbrev pub sizeIn : ℕ → ℕ
+sizeIn bits = readBits 0 48 bits
+
+abbrev pub offsetIn : ℕ → ℕ
+offsetIn bits = readBits 16 32 bits
+
+abbrev pub lengthIn : ℕ → ℕ
+lengthIn bits = readBits 0 16 bits

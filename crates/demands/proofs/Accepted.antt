@@ -4,11 +4,10 @@ use mathlib.Core.Bool.{Bool, true, false, cond, _&&_}
 use mathlib.Core.List.{List, [], _∷_, _++_}
 use mathlib.Core.Path.{_≡_, refl, sym, _∙_, ap}
 use native.Mathlib.Omega.{arith}
-use borrow.Author.Tests.{le-leb, leb-true}
+use borrow.Author.Tests.{le-leb}
 use lib.Dec.{leb, ltb, eqb}
 use lib.ListN.{length, getD, drop, length-drop}
 use Rattle.base.specs.Limits.{symbols, edge, patternLimit, roomSize, wordLimit}
-use Rattle.base.specs.declared.Check.{Check}
 use Rattle.base.specs.declared.Check.the-variants.{Fine, Refused}
 use Rattle.base.specs.declared.Ground.the-variants.{NotLetter, WordEmpty, WordLong}
 use Rattle.base.specs.Grounds.{refuseIf}
@@ -19,7 +18,7 @@ use Rattle.words.proofs.Theorems.{letter-lower}
 use Rattle.words.proofs.Laws.{small-low, small-high, symbol-small}
 use Rattle.lookup.specs.Find.{findEither}
 use Rattle.lookup.specs.declared.Located.the-variants.{Nowhere}
-use Rattle.liang.specs.Patterns.{Pattern, patternsOf}
+use Rattle.liang.specs.Patterns.{patternsOf}
 use Rattle.liang.specs.Levels.{liang}
 use Rattle.liang.specs.Breaks.{inMargins, odd, levelBreak, isBreak}
 use Rattle.table.specs.Table.{judgeTable, cellsOf, entriesOf}

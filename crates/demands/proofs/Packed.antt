@@ -1,7 +1,7 @@
 -- The packer finishes the first-fit table, and what it finishes is accepted with its list.
 use Prim.Native.Nat.{ℕ, _-_}
 use mathlib.Core.List.{List, _++_}
-use mathlib.Core.Path.{_≡_, refl, sym, _∙_, ap}
+use mathlib.Core.Path.{_≡_, refl, _∙_, ap}
 use native.Mathlib.Omega.{arith}
 use lib.Dec.{ltb}
 use lib.ListN.{length, take, drop, replicate}
@@ -23,7 +23,7 @@ use Rattle.packer.specs.declared.Packing.{Packing}
 use Rattle.packer.specs.declared.Packing.the-variants as packings
 use Rattle.packer.specs.Pack.{judgePack, packing, packedRoom, packedAfter, Packs}
 
-judged-patterns : (text : List ℕ) (size : ℕ) → judgePack text size ≡ Fine → judgePatterns text ≡ Fine
+pub judged-patterns : (text : List ℕ) (size : ℕ) → judgePack text size ≡ Fine → judgePatterns text ≡ Fine
 unfolding judgePack
 judged-patterns text size e = both-fine (refuseIf (ltb size packRoom) PackRoomShort) (judgePatterns text) e .1
 

@@ -42,7 +42,7 @@ pub finding : (judged : Check) (sheet : List ℕ) (count marks looks : ℕ) → 
 finding Fine sheet count marks looks e = let m : marks ≡ nonzero sheet = cc in let l : looks ≡ count = cc in record { judged-fine = refl; marks-are = m; looks-are = l }
 finding (Refused g) sheet count marks looks e = let z : _≡_ {A = ℕ} 0 1 = cc in absurd (omega arith)
 
-word-few : (cells : List ℕ) (root : ℕ) (word : List ℕ) → wordLooks cells root word ≤ patternLimit * (length word + 2)
+pub word-few : (cells : List ℕ) (root : ℕ) (word : List ℕ) → wordLooks cells root word ≤ patternLimit * (length word + 2)
 unfolding wordLooks
 word-few cells root word = omega (arith, looks-few cells root (rowOf word), row-length word)
 
@@ -60,6 +60,10 @@ listed-few (Customer s e) n m h = omega arith
 listed-few (House s e) n m h = omega arith
 listed-few Nowhere n m h = h
 
+pub breaks-few : (customer house cells : List ℕ) (root : ℕ) (word : List ℕ) → breakLooks customer house cells root word ≤ patternLimit * (length word + 2)
+unfolding breakLooks
+breaks-few customer house cells root word = listed-few (findEither word customer house) (wordLooks cells root word) (patternLimit * (length word + 2)) (word-few cells root word)
+
 -- "but 0 from the hyphenating call where an exception line decides"
 module _ (left right : ℕ) (word customer house table room after : List ℕ) (marks looks : ℕ) (b : Breaks left right word customer house table room (answers.Found marks looks) after) where
   breaks-count : looks ≡ breakLooks customer house (cellsOf table) rootBase word
@@ -76,9 +80,7 @@ module _ (left right : ℕ) (word customer house table room after : List ℕ) (m
   breaks-count-listed l (inr p) e = breaks-count ∙ rw (e, p)
 
   pub breaks-limit : looks ≤ patternLimit * (length word + 2)
-  unfolding breakLooks
-  breaks-limit =
-      omega (arith, breaks-count, listed-few (findEither word customer house) (wordLooks (cellsOf table) rootBase word) (patternLimit * (length word + 2)) (word-few (cellsOf table) rootBase word))
+  breaks-limit = omega (arith, breaks-count, breaks-few customer house (cellsOf table) rootBase word)
 
 -- a break asks the levels at its own gap alone
 break-same : (l m : Located) (customer house : List ℕ) (f g : ℕ → Bool) (i : ℕ) → l ≡ m → f i ≡ g i → breakBy l customer house f i ≡ breakBy m customer house g i

@@ -115,7 +115,7 @@ module _ (w c h : List ℕ) where
   locate-found p q = rw (← p, q)
 
 -- how long some lines are together; cutting loses nothing
-pub total : List (List ℕ) → ℕ
+unfoldable pub total : List (List ℕ) → ℕ
 total [] = 0
 total (l ∷ ls) = length l + total ls
 

@@ -1,0 +1,359 @@
+-- The C interface loses nothing: what the header's accessors read of a returned number is what the call answers.
+use Prim.Native.Nat.{ℕ, suc, _+_, _*_, _-_, _≤_, _<_}
+use mathlib.Core.Bool.{Bool, true, false, cond, not, _&&_, _||_}
+use mathlib.Core.List.{List, [], _∷_}
+use mathlib.Core.Path.{_≡_, refl, sym, _∙_}
+use native.Mathlib.Omega.{arith}
+use borrow.Author.Tests.{ltb-false, leb-true, eqb-true, not-false}
+use lib.Dec.{ltb, leb, eqb}
+use lib.ListN.{length, getD}
+use Rattle.base.specs.Limits.{wordLimit, roomSize, patternLimit, patternText, exceptionText, customerList, houseList, cells, entries, packRoom}
+use Rattle.base.specs.Grounds.{told, first, refuseIf}
+use Rattle.base.specs.declared.Check.{Check}
+use Rattle.base.specs.declared.Check.the-variants.{Fine, Refused}
+use Rattle.base.specs.declared.Ground.{Ground}
+use Rattle.base.specs.declared.Ground.the-variants.{Margin, WordEmpty, NotLetter, WordLong, RoomShort, BadException, BadPattern, TextLong, TableForm, PackRoomShort, NoFit, NotRight}
+use Rattle.base.proofs.Grounds.{both-fine, not-refused}
+use Rattle.base.proofs.Lists.{never}
+use Rattle.words.specs.Symbols.{letter, symbolsOf}
+use Rattle.words.specs.Words.{allLetters, judgeWord}
+use Rattle.lines.specs.Lines.{cut}
+use Rattle.lines.specs.Order.{before}
+use Rattle.lists.specs.declared.Form.{Form}
+use Rattle.lists.specs.declared.Form.the-variants.{Patterns, Exceptions}
+use Rattle.lists.specs.declared.Lines.{Lines}
+use Rattle.lists.specs.declared.Lines.the-variants.{Good, BadAt}
+use Rattle.lists.specs.Lists.{goodLine, firstBad, judgeLines, judgeSize, badPattern, badException, judgePatterns, judgeLists}
+use Rattle.lookup.specs.declared.Located.{Located}
+use Rattle.lookup.specs.declared.Located.the-variants.{Customer, House, Nowhere}
+use Rattle.lookup.specs.Lookup.{judgeLookup, locate}
+use Rattle.lookup.proofs.Laws.{total, total-cut, located-customer, located-house, locate-refused}
+use Rattle.liang.specs.Breaks.{badMargin}
+use Rattle.liang.specs.Patterns.{patternsOf}
+use Rattle.table.specs.Table.{headSize, headKind, edition, cellSize, entrySize, cellCount, entryCount, formed, judgeTable, cellsOf, entriesOf}
+use Rattle.right.specs.Test.{rightTest, judgeCheck}
+use Rattle.hyphenation.specs.Sheet.{sheet, nonzero}
+use Rattle.hyphenation.specs.Levels.{levelSheet, wordLooks}
+use Rattle.hyphenation.specs.Breaks.{breakSheet}
+use Rattle.hyphenation.specs.Calls.{rootBase, judgeRoom, judgeMargins, judgeLevels, judgeHyphenate, answer, levelsAnswer, breaksSheet, breaksLooks, breaksAnswer}
+use Rattle.hyphenation.specs.declared.Answer.{Answer}
+use Rattle.hyphenation.specs.declared.Answer.the-variants as answers
+use Rattle.hyphenation.proofs.Laws.{sheet-length}
+use Rattle.hyphenation.proofs.Calls.{levels-sizes, breaks-sizes}
+use Rattle.hyphenation.proofs.Theorems.{word-few, breaks-few}
+use Rattle.fit.specs.Table.{Fit, NoRoom, Packed, firstFit}
+use Rattle.packer.specs.declared.Packing.{Packing}
+use Rattle.packer.specs.declared.Packing.the-variants as packings
+use Rattle.packer.specs.Pack.{judgePack, packing, packAnswer}
+use Rattle.capi.specs.Bits.{refusalBits, lineBits, answerBits, packingBits, checkBits, locatedBits, numberIn, listIn, placeIn, marksIn, looksIn, sizeIn, offsetIn, lengthIn}
+use Rattle.capi.proofs.Read.{told-number, told-list, told-place, found-number, found-marks, found-looks, size-number, size-size, line-number, line-list, line-offset, line-length}
+use Rattle.demands.proofs.Packed.{judged-patterns, fit-accepted}
+
+-- What is read of a refusal's bits.
+pub record ReadsRefusal (g : Ground) (bits : ℕ) : Type 0 where
+  pub number : numberIn bits ≡ told g .number
+  pub list : listIn bits ≡ told g .list
+  pub place : placeIn bits ≡ told g .place
+
+-- A ground whose list and place fit into their bits.
+pub record Small (g : Ground) : Type 0 where
+  pub list : told g .list < 256
+  pub place : told g .place < 281474976710656
+
+SmallCheck : Check → Type 0
+SmallCheck Fine = Unit {0}
+SmallCheck (Refused g) = Small g
+
+number-small : (g : Ground) → told g .number < 256
+number-small Margin = omega arith
+number-small WordEmpty = omega arith
+number-small (NotLetter at) = omega arith
+number-small WordLong = omega arith
+number-small RoomShort = omega arith
+number-small (BadException list offset) = omega arith
+number-small (BadPattern offset) = omega arith
+number-small TextLong = omega arith
+number-small TableForm = omega arith
+number-small PackRoomShort = omega arith
+number-small NoFit = omega arith
+number-small NotRight = omega arith
+
+reads-refusal : (g : Ground) → Small g → ReadsRefusal g (refusalBits g)
+reads-refusal g s =
+    record {
+      number = told-number (told g .number) (told g .list) (told g .place) (number-small g) (s .list) (s .place);
+      list = told-list (told g .number) (told g .list) (told g .place) (number-small g) (s .list) (s .place);
+      place = told-place (told g .number) (told g .list) (told g .place) (number-small g) (s .list) (s .place);
+    }
+
+-- judgements in order, and one that is made only where a test fails
+small-first : (a b : Check) → SmallCheck a → SmallCheck b → SmallCheck (first a b)
+unfolding SmallCheck
+small-first Fine b p q = q
+small-first (Refused g) b p q = p
+
+small-if : (test : Bool) (g : Ground) → Small g → SmallCheck (refuseIf test g)
+unfolding SmallCheck
+small-if true g s = s
+small-if false g s = tt
+
+small-unless : (test : Bool) (g : Ground) (rest : Check) → Small g → (test ≡ false → SmallCheck rest) → SmallCheck (first (refuseIf test g) rest)
+unfolding SmallCheck
+small-unless true g rest s k = s
+small-unless false g rest s k = k refl
+
+small-either : (test : Bool) (a b : Check) → SmallCheck a → SmallCheck b → SmallCheck (cond test a b)
+small-either true a b p q = p
+small-either false a b p q = q
+
+-- words
+letters-small : (at : ℕ) (word : List ℕ) → at + length word < 281474976710656 → SmallCheck (allLetters at word)
+unfolding allLetters SmallCheck
+letters-small at [] h = tt
+letters-small at (b ∷ word) h =
+    small-either (letter b) (allLetters (at + 1) word) (Refused (NotLetter at)) (letters-small (at + 1) word (omega arith)) (record { list = omega arith; place = omega arith })
+
+word-small : (word : List ℕ) → SmallCheck (judgeWord wordLimit word)
+unfolding judgeWord
+word-small word =
+    small-first (refuseIf (eqb (length word) 0) WordEmpty) _ (small-if (eqb (length word) 0) WordEmpty (record { list = omega arith; place = omega arith }))
+    (small-unless (ltb wordLimit (length word)) WordLong (allLetters 0 word) (record { list = omega arith; place = omega arith })
+    λ z. letters-small 0 word (omega (arith, ltb-false wordLimit (length word) z)))
+
+-- lists
+SmallLines : Lines → Type 0
+SmallLines Good = Unit {0}
+SmallLines (BadAt offset) = offset < 281474976710656
+
+lines-either : (test : Bool) (a b : Lines) → SmallLines a → SmallLines b → SmallLines (cond test a b)
+lines-either true a b p q = p
+lines-either false a b p q = q
+
+lines-small : (form : Form) (at : ℕ) (above : List ℕ) (ls : List (List ℕ)) → at + total ls < 281474976710656 → SmallLines (firstBad form at above ls)
+unfolding firstBad total SmallLines
+lines-small form at above [] h = tt
+lines-small form at above (line ∷ rest) h =
+    lines-either (goodLine form line && before (symbolsOf above) (symbolsOf line)) (firstBad form (at + length line) line rest) (BadAt at)
+    (lines-small form (at + length line) line rest (omega arith)) (omega arith)
+
+text-small : (form : Form) (limit : ℕ) (text : List ℕ) → limit < 281474976710656 → length text ≤ limit → SmallLines (judgeLines form text)
+unfolding judgeLines
+text-small form limit text k h = lines-small form 0 [] (cut text) (omega (arith, total-cut text))
+
+pattern-small : (lines : Lines) → SmallLines lines → SmallCheck (badPattern lines)
+unfolding SmallLines SmallCheck
+pattern-small Good h = tt
+pattern-small (BadAt offset) h = record { list = omega arith; place = h }
+
+exception-small : (list : ℕ) → list < 256 → (lines : Lines) → SmallLines lines → SmallCheck (badException list lines)
+unfolding SmallLines SmallCheck
+exception-small list l Good h = tt
+exception-small list l (BadAt offset) h = record { list = l; place = h }
+
+plain : (g : Ground) → told g .list ≡ 0 → told g .place ≡ 0 → Small g
+plain g l p = record { list = omega (arith, l); place = omega (arith, p) }
+
+patterns-small : (text : List ℕ) → SmallCheck (judgePatterns text)
+unfolding judgePatterns judgeSize
+patterns-small text =
+    small-unless (ltb patternText (length text)) TextLong _ (plain TextLong refl refl)
+    λ z. pattern-small (judgeLines Patterns text) (text-small Patterns patternText text (omega arith) (ltb-false patternText (length text) z))
+
+lists-small : (customer house : List ℕ) → SmallCheck (judgeLists customer house)
+unfolding judgeLists judgeSize
+lists-small customer house =
+    small-unless (ltb exceptionText (length customer)) TextLong _ (plain TextLong refl refl) λ c.
+    small-unless (ltb exceptionText (length house)) TextLong _ (plain TextLong refl refl) λ h.
+    small-first (badException customerList (judgeLines Exceptions customer)) _
+    (exception-small customerList (omega arith) (judgeLines Exceptions customer) (text-small Exceptions exceptionText customer (omega arith) (ltb-false exceptionText (length customer) c)))
+    (exception-small houseList (omega arith) (judgeLines Exceptions house) (text-small Exceptions exceptionText house (omega arith) (ltb-false exceptionText (length house) h)))
+
+-- the calls' judgements
+table-small : (table : List ℕ) → SmallCheck (judgeTable table)
+unfolding judgeTable
+table-small table = small-if (not (formed table)) TableForm (plain TableForm refl refl)
+
+room-small : (size : ℕ) → SmallCheck (judgeRoom size)
+unfolding judgeRoom
+room-small size = small-if (ltb size roomSize) RoomShort (plain RoomShort refl refl)
+
+margins-small : (left right : ℕ) → SmallCheck (judgeMargins left right)
+unfolding judgeMargins
+margins-small left right = small-if (badMargin left || badMargin right) Margin (plain Margin refl refl)
+
+levels-small : (word table : List ℕ) (size : ℕ) → SmallCheck (judgeLevels word table size)
+unfolding judgeLevels
+levels-small word table size = small-first (judgeRoom size) _ (room-small size) (small-first (judgeWord wordLimit word) (judgeTable table) (word-small word) (table-small table))
+
+hyphenate-small : (left right : ℕ) (word customer house table : List ℕ) (size : ℕ) → SmallCheck (judgeHyphenate left right word customer house table size)
+unfolding judgeHyphenate
+hyphenate-small left right word customer house table size =
+    small-first (judgeMargins left right) _ (margins-small left right)
+    (small-first (judgeRoom size) _ (room-small size)
+    (small-first (judgeWord wordLimit word) _ (word-small word)
+    (small-first (judgeLists customer house) (judgeTable table) (lists-small customer house) (table-small table))))
+
+check-small : (text table : List ℕ) → SmallCheck (judgeCheck text table)
+unfolding judgeCheck
+check-small text table =
+    small-first (judgePatterns text) _ (patterns-small text)
+    (small-first (judgeTable table) _ (table-small table)
+    (small-if (not (rightTest (patternsOf text) (cellsOf table) (entriesOf table) 0 (cellCount table) (entryCount table))) NotRight (plain NotRight refl refl)))
+
+pack-small : (text : List ℕ) (size : ℕ) → SmallCheck (judgePack text size)
+unfolding judgePack
+pack-small text size =
+    small-first (refuseIf (ltb size packRoom) PackRoomShort) (judgePatterns text) (small-if (ltb size packRoom) PackRoomShort (plain PackRoomShort refl refl)) (patterns-small text)
+
+-- What is read of an answer's bits.
+pub ReadsAnswer : Answer → ℕ → Type 0
+ReadsAnswer (answers.Found marks looks) bits = (numberIn bits ≡ 0) × (marksIn bits ≡ marks) × (looksIn bits ≡ looks)
+ReadsAnswer (answers.Refused g) bits = ReadsRefusal g bits
+
+nonzero-few : (bytes : List ℕ) → nonzero bytes ≤ length bytes
+unfolding nonzero
+nonzero-few [] = omega arith
+nonzero-few (b ∷ bytes) = go (eqb b 0) (nonzero-few bytes)
+  where
+    go : (z : Bool) → nonzero bytes ≤ length bytes → cond z (nonzero bytes) (1 + nonzero bytes) ≤ suc (length bytes)
+    go true h = omega arith
+    go false h = omega arith
+
+-- an answer by its judgement, where the finding's two numbers fit
+reads-answer : (judged : Check) (bytes : List ℕ) (looks : ℕ) → SmallCheck judged → length bytes ≡ roomSize → (judged ≡ Fine → looks < 4294967296)
+    → ReadsAnswer (answer judged bytes looks) (answerBits (answer judged bytes looks))
+unfolding SmallCheck ReadsAnswer
+reads-answer Fine bytes looks s n k =
+    let m : nonzero bytes < 65536 = omega (arith, nonzero-few bytes, n) in
+    (found-number (nonzero bytes) looks m (k refl), found-marks (nonzero bytes) looks m (k refl), found-looks (nonzero bytes) looks m (k refl))
+reads-answer (Refused g) bytes looks s n k = reads-refusal g s
+
+-- a judged word's looks are few
+module _ (word : List ℕ) (h : length word ≤ wordLimit) where
+  few : {looks : ℕ} → looks ≤ patternLimit * (length word + 2) → looks < 4294967296
+  few k = omega arith
+
+-- The levels call's bits say what it answers.
+pub levels-bits : (word table : List ℕ) (size : ℕ) → ReadsAnswer (levelsAnswer word table size) (answerBits (levelsAnswer word table size))
+unfolding levelSheet sheet
+levels-bits word table size =
+    reads-answer (judgeLevels word table size) (levelSheet (cellsOf table) (entriesOf table) rootBase word) (wordLooks (cellsOf table) rootBase word)
+    (levels-small word table size) (sheet-length _ 0 roomSize)
+    λ e. few word (levels-sizes word table size refl e .0) (word-few (cellsOf table) rootBase word)
+
+-- The hyphenating call's bits say what it answers.
+pub hyphenate-bits : (left right : ℕ) (word customer house table : List ℕ) (size : ℕ)
+    → ReadsAnswer (breaksAnswer left right word customer house table size) (answerBits (breaksAnswer left right word customer house table size))
+unfolding breakSheet sheet
+hyphenate-bits left right word customer house table size =
+    reads-answer (judgeHyphenate left right word customer house table size) (breaksSheet left right word customer house table) (breaksLooks word customer house table)
+    (hyphenate-small left right word customer house table size) (sheet-length _ 0 roomSize)
+    λ e. few word (breaks-sizes left right word customer house table size refl e .0) (breaks-few customer house (cellsOf table) rootBase word)
+
+-- The checker's bits say what it answers: all zero, or the refusal.
+pub ReadsCheck : Check → ℕ → Type 0
+ReadsCheck Fine bits = bits ≡ 0
+ReadsCheck (Refused g) bits = ReadsRefusal g bits
+
+pub check-bits : (text table : List ℕ) → ReadsCheck (judgeCheck text table) (checkBits (judgeCheck text table))
+unfolding SmallCheck ReadsCheck
+check-bits text table = go (judgeCheck text table) (check-small text table)
+  where
+    go : (c : Check) → SmallCheck c → ReadsCheck c (checkBits c)
+    go Fine s = refl
+    go (Refused g) s = reads-refusal g s
+
+-- a table that passes ground 9 is short
+and-both : (a b : Bool) → (a && b) ≡ true → (a ≡ true) × (b ≡ true)
+and-both true b e = (refl, e)
+and-both false b e = never e
+
+formed-short : (table : List ℕ) → formed table ≡ true → length table ≤ packRoom
+unfolding formed
+formed-short table e =
+    let a = and-both (leb headSize (length table)) _ e in
+    let b = and-both (eqb (getD table 0 0) headKind) _ (a .1) in
+    let c = and-both (eqb (getD table 1 0) edition) _ (b .1) in
+    let d = and-both (leb 1 (cellCount table)) _ (c .1) in
+    let f = and-both (leb (cellCount table) cells) _ (d .1) in
+    let g = and-both (leb (entryCount table) entries) _ (f .1) in
+    omega (
+      arith,
+      leb-true (cellCount table) cells (f .0),
+      leb-true (entryCount table) entries (g .0),
+      eqb-true (length table) (headSize + cellSize * cellCount table + entrySize * entryCount table) (g .1),
+    )
+
+accepted-short : (text table : List ℕ) → judgeCheck text table ≡ Fine → length table ≤ packRoom
+unfolding judgeCheck judgeTable
+accepted-short text table e =
+    let a = both-fine (judgePatterns text) _ e in
+    let b = both-fine (refuseIf (not (formed table)) TableForm) _ (a .1) in
+    formed-short table (not-false (formed table) (not-refused (not (formed table)) TableForm (b .0)))
+
+-- The packer's bits say what it answers.
+pub ReadsPacking : Packing → ℕ → Type 0
+ReadsPacking (packings.Done size) bits = (numberIn bits ≡ 0) × (sizeIn bits ≡ size)
+ReadsPacking (packings.Refused g) bits = ReadsRefusal g bits
+
+pub pack-bits : (text : List ℕ) (size : ℕ) → ReadsPacking (packAnswer text size) (packingBits (packAnswer text size))
+unfolding SmallCheck ReadsPacking
+pack-bits text size = go (judgePack text size) refl (pack-small text size) (firstFit (patternsOf text)) refl
+  where
+    go : (v : Check) → judgePack text size ≡ v → SmallCheck v → (fit : Fit) → firstFit (patternsOf text) ≡ fit → ReadsPacking (packing v fit) (packingBits (packing v fit))
+    go (Refused g) j s fit f = reads-refusal g s
+    go Fine j s NoRoom f = reads-refusal NoFit (plain NoFit refl refl)
+    go Fine j s (Packed table) f =
+        let n = accepted-short text table (fit-accepted text table (judged-patterns text size j) f) in
+        (size-number (length table) (omega (arith, n)), size-size (length table) (omega (arith, n)))
+
+-- two answers of the lookup told apart
+nowhere-customer : {start end : ℕ} → Customer start end ≡ Nowhere → ⊥
+nowhere-customer e = let z : _≡_ {A = ℕ} 0 1 = cc in omega arith
+
+nowhere-house : {start end : ℕ} → House start end ≡ Nowhere → ⊥
+nowhere-house e = let z : _≡_ {A = ℕ} 0 1 = cc in omega arith
+
+-- The lookup's bits say where the line is: no list where there is none.
+pub ReadsLine : ℕ → ℕ → ℕ → ℕ → Type 0
+ReadsLine list start end bits = (numberIn bits ≡ 0) × (listIn bits ≡ list) × (offsetIn bits ≡ start) × (lengthIn bits ≡ end - start)
+
+pub ReadsLocated : Located → ℕ → Type 0
+ReadsLocated (Customer start end) bits = ReadsLine customerList start end bits
+ReadsLocated (House start end) bits = ReadsLine houseList start end bits
+ReadsLocated Nowhere bits = bits ≡ 0
+
+-- a line that is found lies in a text within its limit
+lists-short : (word customer house : List ℕ) → judgeLookup word customer house ≡ Fine → (length customer ≤ exceptionText) × (length house ≤ exceptionText)
+unfolding judgeLookup judgeLists judgeSize
+lists-short word customer house e =
+    let a = both-fine (judgeWord wordLimit word) _ e in
+    let b = both-fine (refuseIf (ltb exceptionText (length customer)) TextLong) _ (a .1) in
+    let c = both-fine (refuseIf (ltb exceptionText (length house)) TextLong) _ (b .1) in (
+      ltb-false exceptionText (length customer) (not-refused (ltb exceptionText (length customer)) TextLong (b .0)),
+      ltb-false exceptionText (length house) (not-refused (ltb exceptionText (length house)) TextLong (c .0)),
+    )
+
+reads-line : (list start end : ℕ) → list < 256 → end ≤ exceptionText → start ≤ end → ReadsLine list start end (lineBits list start end)
+unfolding ReadsLine
+reads-line list start end l e s = (
+  line-number list start end l (omega arith) (omega arith),
+  line-list list start end l (omega arith) (omega arith),
+  line-offset list start end l (omega arith) (omega arith),
+  line-length list start end l (omega arith) (omega arith),
+)
+
+pub lookup-bits : (word customer house : List ℕ) → ReadsLocated (locate word customer house) (locatedBits (locate word customer house))
+unfolding ReadsLocated
+lookup-bits word customer house = go (judgeLookup word customer house) refl (locate word customer house) refl
+  where
+    go : (v : Check) → judgeLookup word customer house ≡ v → (at : Located) → locate word customer house ≡ at → ReadsLocated at (locatedBits at)
+    go v j Nowhere l = refl
+    go Fine j (Customer start end) l =
+        let w = located-customer word customer house l in
+        reads-line customerList start end (omega arith) (omega (arith, w .ends, lists-short word customer house j .0)) (w .starts)
+    go Fine j (House start end) l =
+        let w = located-house word customer house l in
+        reads-line houseList start end (omega arith) (omega (arith, w .ends, lists-short word customer house j .1)) (w .starts)
+    go (Refused g) j (Customer start end) l = absurd (nowhere-customer (sym (locate-refused word customer house (sym j) refl ∙ l)))
+    go (Refused g) j (House start end) l = absurd (nowhere-house (sym (locate-refused word customer house (sym j) refl ∙ l)))
