@@ -1,0 +1,71 @@
+//! The rules of the scope document, written a second time and from its words
+//! alone.
+//!
+//! Nothing here is clever: lists are read into vectors, levels come from
+//! trying every pattern at every place, the checker lists the table's paths,
+//! and first fit tries one base after the other.
+
+pub mod calls;
+pub mod fit;
+pub mod liang;
+pub mod right;
+pub mod table;
+pub mod text;
+
+pub use calls::{check, hyphenate, levels, lookup, pack};
+pub use text::{Exception, Pattern};
+
+/// The symbol of the word's edge.
+pub const EDGE: u8 = 27;
+/// The most symbols of a pattern, and so of a walk.
+pub const LONGEST: usize = 16;
+/// The most letters of a word or an exception line.
+pub const WORD_LIMIT: usize = 63;
+/// The most bytes of a pattern text.
+pub const PATTERN_TEXT_LIMIT: usize = 32_768;
+/// The most bytes of an exception text.
+pub const EXCEPTION_TEXT_LIMIT: usize = 8_192;
+/// The most cells of a table.
+pub const CELL_LIMIT: usize = 8_192;
+/// The most entries of a table.
+pub const ENTRY_LIMIT: usize = 2_048;
+/// The least room for breaks or levels.
+pub const MARK_ROOM: usize = 64;
+/// The least room for packing: the length of the largest table.
+pub const PACK_ROOM: usize = 6 + 6 * CELL_LIMIT + 5 * ENTRY_LIMIT;
+
+/// A refusal: the ground's number, the list (0 if none), the place (0 if none).
+#[derive(Clone, Copy, Debug, PartialEq, Eq)]
+pub struct Refusal {
+    /// The ground's number.
+    pub number: u8,
+    /// 1 for the customer's list, 2 for the house's, else 0.
+    pub list: u8,
+    /// A byte in the word or a line's offset.
+    pub place: usize,
+}
+
+impl Refusal {
+    /// A refusal without list and place.
+    pub fn plain(number: u8) -> Refusal {
+        Refusal {
+            number,
+            list: 0,
+            place: 0,
+        }
+    }
+
+    /// A refusal that tells a place.
+    pub fn at(number: u8, place: usize) -> Refusal {
+        Refusal {
+            number,
+            list: 0,
+            place,
+        }
+    }
+
+    /// The 64 bits that the C interface gives for it.
+    pub fn answer(&self) -> u64 {
+        (self.number as u64) << 56 | (self.list as u64) << 48 | self.place as u64
+    }
+}

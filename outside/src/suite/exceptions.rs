@@ -1,0 +1,195 @@
+//! Exception lists in the hyphenating call and the lookup.
+
+use super::patterns::all_texts;
+use super::{Packed, NINE};
+use crate::run::{demand, Run};
+use outside::lab::{margins, Lab, Mismatch};
+use outside::make::{exceptions as make, words};
+use outside::reference::EXCEPTION_TEXT_LIMIT;
+use outside::rng::Rng;
+
+/// Both calls with both lists.
+fn both_calls(
+    lab: &mut Lab,
+    rng: &mut Rng,
+    word: &[u8],
+    customer: &[u8],
+    house: &[u8],
+    table: &[u8],
+) -> Result<(), Mismatch> {
+    let (left, right) = margins(rng);
+    lab.lookup(word, customer, house)?;
+    lab.hyphenate(left, right, word, customer, house, table, 64)?;
+    Ok(())
+}
+
+/// Good lists; words that stand in one, in both, in none.
+pub fn random_lists(run: &mut Run) -> Result<(), Mismatch> {
+    let table = Packed::of_text(NINE).table;
+    run.rounds(75_000, |lab, rng| {
+        let alphabet = words::alphabet(rng);
+        let size = *rng.pick(&[0, 1, 2, 5, 20]);
+        let wanted: Vec<Vec<u8>> = (0..4)
+            .map(|_| {
+                let length = words::length(rng);
+                words::good(rng, &alphabet, length)
+            })
+            .collect();
+        let (mine, theirs) = (rng.range(0, 2), rng.range(1, 3));
+        let customer = make::with_words(rng, &alphabet, size, &wanted[..mine]);
+        let house = make::with_words(rng, &alphabet, size, &wanted[1..theirs]);
+        for word in &wanted {
+            both_calls(lab, rng, word, &customer, &house, &table)?;
+            let mut near = word.clone();
+            match rng.below(3) {
+                0 => near.push(b'a'),
+                1 => {
+                    near.pop();
+                }
+                _ => near[0] = b'b',
+            }
+            both_calls(lab, rng, &near, &customer, &house, &table)?;
+        }
+        Ok(())
+    })
+}
+
+/// All short texts over the bytes that matter, as either list.
+pub fn all_short_texts(run: &mut Run) -> Result<(), Mismatch> {
+    let table = Packed::of_text(b"").table;
+    run.once(|lab, _| {
+        all_texts(b"ab-\n", 7, |text| {
+            lab.lookup(b"ab", text, b"")?;
+            lab.hyphenate(1, 1, b"aB", b"", text, &table, 64)?;
+            lab.hyphenate(1, 1, b"b", text, b"a\nb-\n", &table, 64)?;
+            Ok(())
+        })?;
+        all_texts(b"aA-.1\n", 5, |text| {
+            lab.lookup(b"a", b"", text)?;
+            lab.hyphenate(1, 1, b"aa", text, b"a\n", &table, 64)?;
+            Ok(())
+        })
+    })
+}
+
+/// Every byte at every place of a good list, put in and put instead.
+pub fn all_bytes(run: &mut Run) -> Result<(), Mismatch> {
+    let table = Packed::of_text(b"").table;
+    let mut list = b"a\nab-c\nb-a\nba-a-b\n".to_vec();
+    list.extend([b'c'; 63]);
+    list.extend(b"\nz-z\n");
+    run.once(|lab, _| {
+        for place in 0..list.len() {
+            for byte in 0..=255 {
+                let mut other = list.clone();
+                other[place] = byte;
+                lab.lookup(b"abc", &other, b"")?;
+                lab.hyphenate(1, 1, b"zz", b"", &other, &table, 64)?;
+                other[place] = list[place];
+                other.insert(place, byte);
+                lab.lookup(b"zz", b"", &other)?;
+                lab.hyphenate(1, 1, b"baab", &other, b"", &table, 64)?;
+            }
+        }
+        Ok(())
+    })
+}
+
+/// Texts of exactly the most bytes, and one byte more, as either list.
+pub fn text_limit(run: &mut Run) -> Result<(), Mismatch> {
+    let table = Packed::of_text(NINE).table;
+    run.rounds(1_200, |lab, rng| {
+        let bytes = EXCEPTION_TEXT_LIMIT + rng.below(2);
+        let full = make::exact(rng, bytes);
+        let other = match rng.below(4) {
+            0 => make::exact(rng, EXCEPTION_TEXT_LIMIT),
+            1 => make::exact(rng, EXCEPTION_TEXT_LIMIT + 1),
+            2 => b"b\na\n".to_vec(),
+            _ => Vec::new(),
+        };
+        let mut wanted: Vec<Vec<u8>> = vec![b"evening".to_vec()];
+        for text in [&full, &other] {
+            let lines: Vec<&[u8]> = text.split(|&byte| byte == b'\n').collect();
+            for line in [
+                lines[0],
+                lines[lines.len() / 2],
+                lines[lines.len().saturating_sub(2)],
+            ] {
+                wanted.push(line.iter().copied().filter(|&byte| byte != b'-').collect());
+            }
+        }
+        for word in &wanted {
+            both_calls(lab, rng, word, &full, &other, &table)?;
+            both_calls(lab, rng, word, &other, &full, &table)?;
+        }
+        Ok(())
+    })
+}
+
+/// Bad lists at random, as either list or both.
+pub fn bad_lists(run: &mut Run) -> Result<(), Mismatch> {
+    let table = Packed::of_text(NINE).table;
+    run.rounds(240_000, |lab, rng| {
+        let alphabet = words::alphabet(rng);
+        let length = rng.range(1, 9);
+        let word = words::good(rng, &alphabet, length);
+        let size = rng.range(0, 9);
+        let good = make::with_words(rng, &alphabet, size, std::slice::from_ref(&word));
+        let bad = make::bad(rng, &good);
+        let other = if rng.once_in(3) {
+            make::bad(rng, &good)
+        } else {
+            good
+        };
+        both_calls(lab, rng, &word, &bad, &other, &table)?;
+        both_calls(lab, rng, &word, &other, &bad, &table)
+    })
+}
+
+/// Lines for other words change nothing.
+pub fn other_lines(run: &mut Run) -> Result<(), Mismatch> {
+    let nine = Packed::of_text(NINE);
+    run.rounds(30_000, |lab, rng| {
+        let alphabet = words::alphabet(rng);
+        let word = words::from_patterns(rng, &nine.list, &alphabet);
+        let letters: Vec<u8> = word.iter().map(|byte| byte.to_ascii_lowercase()).collect();
+        let symbols: Vec<u8> = letters.iter().map(|byte| byte - b'a' + 1).collect();
+        let line = make::line(rng, &symbols);
+        let (left, right) = margins(rng);
+        let mut answers = Vec::new();
+        let in_list = rng.once_in(2);
+        for _ in 0..3 {
+            let size = rng.range(0, 12);
+            let house = around(rng, &alphabet, size, &letters, &line, in_list);
+            let customer = around(rng, &alphabet, size, &letters, &line, false);
+            let answer = lab.hyphenate(left, right, &word, &customer, &house, &nine.table, 64)?;
+            answers.push((answer, lab.room().to_vec()));
+        }
+        demand(answers[0] == answers[1] && answers[1] == answers[2], || {
+            format!("the same answer for {:?} whatever the other lines", word)
+        })
+    })
+}
+
+/// A random list with or without one given line.
+fn around(
+    rng: &mut Rng,
+    alphabet: &[u8],
+    size: usize,
+    letters: &[u8],
+    line: &[u8],
+    with_line: bool,
+) -> Vec<u8> {
+    let text = make::good(rng, alphabet, size);
+    let bare = |line: &[u8]| -> Vec<u8> {
+        let kept = line.iter().copied().filter(|&byte| byte != b'-');
+        kept.collect()
+    };
+    let mut lines = outside::make::lists::split(&text);
+    lines.retain(|other| bare(other) != letters);
+    if with_line {
+        lines.push(line.to_vec());
+        lines.sort_by_key(|line| bare(line));
+    }
+    outside::make::lists::join(&lines)
+}

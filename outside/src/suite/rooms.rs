@@ -1,0 +1,307 @@
+//! Sizes of rooms, the order of refusals, fences, and the safe wrapper.
+
+use super::{Packed, NINE};
+use crate::run::{demand, Run};
+use outside::fence::Place;
+use outside::lab::{Lab, Mismatch};
+use outside::make::{damage, exceptions, lists, words};
+use outside::reference::{self, EXCEPTION_TEXT_LIMIT, PACK_ROOM, PATTERN_TEXT_LIMIT};
+use outside::rng::Rng;
+
+/// Every size that could matter for a room.
+fn sizes_of_rooms() -> impl Iterator<Item = usize> {
+    (0..=140).chain([255, 256, 257, 4_096, 59_397, 59_398, 59_399, 65_535, 65_536])
+}
+
+/// Every call that has a room, with rooms of many sizes.
+pub fn sizes(run: &mut Run) -> Result<(), Mismatch> {
+    let nine = Packed::of_text(NINE);
+    run.once(|lab, _| {
+        for place in [Place::Middle(5), Place::End, Place::Start] {
+            lab.lend_at(place);
+            for size in sizes_of_rooms() {
+                one_size(lab, &nine, size)?;
+            }
+            for size in 59_390..59_410 {
+                for text in [NINE, b"", b"a1", b"a1\na2\n"] {
+                    lab.pack(text, size)?;
+                }
+            }
+        }
+        Ok(())
+    })
+}
+
+/// Answers and refusals with a room of one size.
+fn one_size(lab: &mut Lab, nine: &Packed, size: usize) -> Result<(), Mismatch> {
+    let longest = [b'n'; 63];
+    for word in [&b"hyphenation"[..], b"on", b"a", b"", b"a1", &longest] {
+        lab.levels(word, &nine.table, size)?;
+        lab.levels(word, &nine.table[1..], size)?;
+        lab.hyphenate(2, 3, word, b"", b"o-n\n", &nine.table, size)?;
+        lab.hyphenate(2, 3, word, b"o-n\n", b"", b"", size)?;
+        lab.hyphenate(0, 3, word, b"", b"o-n\n", &nine.table, size)?;
+        lab.hyphenate(2, 3, word, b"", b"o--n\n", &nine.table, size)?;
+    }
+    lab.pack(NINE, size)?;
+    Ok(())
+}
+
+/// An exception text that is good, bad or over its limit.
+fn any_exceptions(rng: &mut Rng) -> Vec<u8> {
+    let count = rng.range(0, 6);
+    let good = exceptions::good(rng, &[1, 2], count);
+    match rng.below(6) {
+        0 | 1 => exceptions::bad(rng, &good),
+        2 if rng.once_in(3) => vec![*rng.pick(b"a\n"); EXCEPTION_TEXT_LIMIT + 1],
+        _ => good,
+    }
+}
+
+/// A pattern text that is good, bad or over its limit.
+fn any_patterns(rng: &mut Rng) -> Vec<u8> {
+    let shape = lists::Shape::any(rng);
+    let list = lists::good(rng, &shape);
+    match rng.below(6) {
+        0 | 1 => lists::bad(rng, &list),
+        2 if rng.once_in(3) => vec![*rng.pick(b"a\n1"); PATTERN_TEXT_LIMIT + 1],
+        _ => reference::text::write_patterns(&list),
+    }
+}
+
+/// A word that is good or bad.
+fn any_word(rng: &mut Rng) -> Vec<u8> {
+    if rng.once_in(3) {
+        words::bad(rng, &[1, 2])
+    } else {
+        let length = rng.range(1, 6);
+        words::good(rng, &[1, 2], length)
+    }
+}
+
+/// Many grounds at once: the answer shows which is judged first.
+pub fn refusal_order(run: &mut Run) -> Result<(), Mismatch> {
+    let nine = Packed::of_text(b"a1b\nb2a\n");
+    run.rounds(240_000, |lab, rng| {
+        let margin = |rng: &mut Rng| *rng.pick(&[1, 2, 63, 1, 2, 0, 64, 1 << 32]);
+        let word = any_word(rng);
+        let (customer, house) = (any_exceptions(rng), any_exceptions(rng));
+        let mut table = nine.table.clone();
+        if rng.once_in(3) {
+            damage::damage_head(rng, &mut table);
+        }
+        let size = *rng.pick(&[64, 64, 65, 100, 63, 0]);
+        let (left, right) = (margin(rng), margin(rng));
+        lab.hyphenate(left, right, &word, &customer, &house, &table, size)?;
+        lab.levels(&word, &table, size)?;
+        lab.lookup(&word, &customer, &house)?;
+        let patterns = any_patterns(rng);
+        lab.check(&patterns, &table)?;
+        if rng.once_in(4) {
+            lab.pack(&patterns, *rng.pick(&[PACK_ROOM, PACK_ROOM - 1]))?;
+        }
+        Ok(())
+    })
+}
+
+/// Everything that may be lent, cut at every length, right before and right
+/// behind forbidden memory.
+pub fn fences(run: &mut Run) -> Result<(), Mismatch> {
+    let nine = Packed::of_text(NINE);
+    run.once(|lab, _| {
+        for place in [Place::End, Place::Start] {
+            lab.lend_at(place);
+            for length in 0..=nine.table.len() {
+                let cut = &nine.table[..length];
+                lab.check(NINE, cut)?;
+                lab.levels(b"hyphenation", cut, 64)?;
+                lab.hyphenate(2, 3, b"hyphenation", b"", b"", cut, 64)?;
+            }
+            for length in 0..=NINE.len() {
+                lab.check(&NINE[..length], &nine.table)?;
+                lab.pack(&NINE[..length], PACK_ROOM)?;
+            }
+            let list = b"a-b\nab-c\nb\nba-b-a\nhyphenatio\nhy-phenation\n";
+            for length in 0..=list.len() {
+                for word in [&b"hyphenation"[..], b"ab", b"b", b"zz"] {
+                    lab.lookup(word, &list[..length], b"")?;
+                    lab.lookup(word, b"", &list[..length])?;
+                    lab.hyphenate(1, 1, word, &list[..length], list, &nine.table, 64)?;
+                }
+            }
+            past_ends(lab)?;
+        }
+        Ok(())
+    })
+}
+
+/// Links and outputs that lead out of tables of many small sizes.
+fn past_ends(lab: &mut Lab) -> Result<(), Mismatch> {
+    for cells in 2..40u8 {
+        for entries in 0..4u8 {
+            let mut table = vec![1, 1, 0, cells, 0, entries];
+            for cell in 0..cells {
+                let link = [0, 1, 255, cells][cell as usize % 4];
+                table.extend([2, cell.min(28), 0, link, 0, cell % 6]);
+            }
+            for entry in 1..=entries {
+                table.extend([3, entry, 3, 0, entry - 1]);
+            }
+            for word in [
+                &b"abcdefghijklmnopqrstuvwxyz"[..],
+                b"zyxwvutsrqponm",
+                b"a",
+                b"ll",
+            ] {
+                lab.levels(word, &table, 64)?;
+                lab.hyphenate(1, 1, word, b"", b"", &table, 64)?;
+            }
+            lab.check(b"a1\nb1\n", &table)?;
+        }
+    }
+    Ok(())
+}
+
+/// Inputs that can't be written at all, so that not even a write that is
+/// undone would pass.
+pub fn locked_inputs(run: &mut Run) -> Result<(), Mismatch> {
+    run.rounds(8_000, |lab, rng| {
+        lab.lock_inputs(true);
+        let patterns = any_patterns(rng);
+        let mut table = Packed::of_text(NINE).table;
+        if rng.once_in(2) {
+            damage::damage(rng, &mut table);
+        }
+        let word = any_word(rng);
+        let (customer, house) = (any_exceptions(rng), any_exceptions(rng));
+        lab.pack(&patterns, PACK_ROOM)?;
+        lab.check(NINE, &table)?;
+        lab.check(&patterns, &table)?;
+        lab.levels(&word, &table, 64)?;
+        lab.hyphenate(1, 1, &word, &customer, &house, &table, 64)?;
+        lab.hyphenate(1, 1, b"hyphenation", b"", &house, &table, 64)?;
+        lab.lookup(&word, &customer, &house)?;
+        Ok(())
+    })
+}
+
+/// The safe functions say what the 64 bits say.
+pub fn wrapper(run: &mut Run) -> Result<(), Mismatch> {
+    let nine = Packed::of_text(b"a1b\nb2a\n");
+    run.rounds(60_000, |lab, rng| {
+        let word = any_word(rng);
+        let (customer, house) = (any_exceptions(rng), any_exceptions(rng));
+        let answer = lab.lookup(&word, &customer, &house)?;
+        let line = tteolmigu::lookup(&word, &customer, &house);
+        demand(line == line_by_answer(answer, &customer, &house), || {
+            format!("lookup of {:?} gives {:?}", word, line)
+        })?;
+        // One text lent as both lists is allowed, since nothing writes to it.
+        let both = tteolmigu::raw::lookup(&word, &house, &house);
+        demand(both == reference::lookup(&word, &house, &house), || {
+            format!("lookup of {:?} in one list lent twice", word)
+        })?;
+        let size = *rng.pick(&[64, 80, 63]);
+        let answer = lab.hyphenate(1, 2, &word, &customer, &house, &nine.table, size)?;
+        let mut room = vec![0; size];
+        let found = tteolmigu::hyphenate(1, 2, &word, &customer, &house, &nine.table, &mut room);
+        demand(answer_of(found) == answer, || format!("{:?}", found))?;
+        let answer = lab.levels(&word, &nine.table, size)?;
+        let found = tteolmigu::levels(&word, &nine.table, &mut room);
+        demand(answer_of(found) == answer, || format!("{:?}", found))?;
+        let patterns = any_patterns(rng);
+        let answer = lab.check(&patterns, &nine.table)?;
+        let found = tteolmigu::check(&patterns, &nine.table);
+        demand(bits_of(found.map(|()| 0)) == answer, || {
+            format!("{:?}", found)
+        })?;
+        if rng.once_in(10) {
+            let answer = lab.pack(&patterns, PACK_ROOM)?;
+            let found = tteolmigu::pack(&patterns, &mut vec![0; PACK_ROOM]);
+            let bits = bits_of(found.map(|length| length as u64));
+            demand(bits == answer, || format!("{:?}", found))?;
+        }
+        Ok(())
+    })
+}
+
+/// Lengths that would look small if they were cut to 32 bits. Such lengths
+/// are refused before anything far away is read.
+#[cfg(target_pointer_width = "64")]
+pub fn huge_lengths(run: &mut Run) -> Result<(), Mismatch> {
+    use outside::fence::Huge;
+    use tteolmigu::raw;
+    let nine = Packed::of_text(NINE);
+    let over = 1usize << 32;
+    run.once(|lab, _| {
+        let (word, table, text) = match (
+            Huge::new(b"hyphenation"),
+            Huge::new(&nine.table),
+            Huge::new(NINE),
+        ) {
+            (Some(word), Some(table), Some(text)) => (word, table, text),
+            // The system gives no such memory, so there is nothing to try.
+            _ => return Ok(()),
+        };
+        let mut room = [7u8; 64];
+        let mut try_one = |what: &str, number: u64, answer: u64| {
+            lab.count_one();
+            demand(answer == number << 56, || {
+                format!("{}: {:#x}", what, answer)
+            })
+        };
+        for more in [0, 1, 11, 63, 64] {
+            let long = word.lend(over + more);
+            let answer = raw::levels(long, &nine.table, &mut room);
+            try_one("word of the levels call", 4, answer)?;
+            let answer = raw::hyphenate(2, 3, long, b"", b"", &nine.table, &mut room);
+            try_one("word of the hyphenating call", 4, answer)?;
+            try_one("word of the lookup", 0, raw::lookup(long, b"", b""))?;
+        }
+        for more in [0, 12, 233] {
+            let long = table.lend(over + more);
+            let answer = raw::levels(b"on", long, &mut room);
+            try_one("table of the levels call", 9, answer)?;
+            let answer = raw::hyphenate(2, 3, b"on", b"", b"", long, &mut room);
+            try_one("table of the hyphenating call", 9, answer)?;
+            try_one("table of the checker", 9, raw::check(NINE, long))?;
+        }
+        let mut store = vec![7; PACK_ROOM];
+        for more in [0, NINE.len()] {
+            let long = text.lend(over + more);
+            try_one("patterns of the checker", 8, raw::check(long, &nine.table))?;
+            try_one("patterns of the packer", 8, raw::pack(long, &mut store))?;
+            let answer = raw::hyphenate(2, 3, b"on", long, b"", &nine.table, &mut room);
+            try_one("customer's list", 8, answer)?;
+            let answer = raw::hyphenate(2, 3, b"on", b"", long, &nine.table, &mut room);
+            try_one("house list", 8, answer)?;
+            try_one("house list of the lookup", 0, raw::lookup(b"on", b"", long))?;
+        }
+        let untouched = room == [7; 64] && store.iter().all(|&byte| byte == 7);
+        demand(untouched, || "refusals leave the rooms alone".to_string())
+    })
+}
+
+/// A wrapper's result, put together again as bits.
+fn bits_of(result: Result<u64, tteolmigu::Refusal>) -> u64 {
+    match result {
+        Ok(finding) => finding,
+        Err(refusal) => (refusal.number as u64) << 56 | (refusal.list as u64) << 48 | refusal.place,
+    }
+}
+
+/// The same for the calls on one word.
+fn answer_of(result: Result<tteolmigu::Found, tteolmigu::Refusal>) -> u64 {
+    bits_of(result.map(|found| (found.marks as u64) << 32 | found.looks as u64))
+}
+
+/// The line that an answer names.
+fn line_by_answer<'a>(answer: u64, customer: &'a [u8], house: &'a [u8]) -> &'a [u8] {
+    let start = (answer >> 16) as u32 as usize;
+    let length = answer as u16 as usize;
+    match answer >> 48 {
+        1 => &customer[start..start + length],
+        2 => &house[start..start + length],
+        _ => &[],
+    }
+}
