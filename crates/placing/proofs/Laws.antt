@@ -20,7 +20,7 @@ use Rattle.patterns.specs.Common.{common}
 use Rattle.patterns.specs.Next.{nextIn, nextMask}
 use Rattle.patterns.proofs.Next.{mask-says}
 use Rattle.right.specs.Test.{allFrom}
-use Rattle.right.proofs.All.{all-same}
+use Rattle.right.proofs.All.{all-same, all-not}
 use Rattle.fit.specs.Cells.{putNumber, isFree, serves, smallest, baseFor, inside, putCell, putCells, cellOf, putLink, Layout, Full, Fits, placeAt, place, opens, placeLength, placeLengths}
 use Rattle.placing.specs.Post.{marked, placeLine, Sized, Placed}
 
@@ -47,6 +47,11 @@ module _ (bytes taken : List ℕ) (child : ℕ → Bool) (base : ℕ) where
   pub serves-taken : (getD taken base 0 ≡ 0 → ⊥) → false ≡ serves bytes taken child base
   unfolding serves
   serves-taken h = rw (ne-eqb (getD taken base 0) 0 h)
+
+  pub serves-used : {first : ℕ} {r : Bool} → getD taken base 0 ≡ 0 → 1 ≤ first → first ≤ symbols → r ≡ (not (child first) || isFree bytes (base + first)) → r ≡ false → false ≡ serves bytes taken child base
+  unfolding serves
+  serves-used {first = first} h a b e z =
+      rw (eq-eqb (getD taken base 0) 0 h) (sym (all-not (λ s. not (child s) || isFree bytes (base + s)) 1 symbols first a (omega (arith, b)) (sym e ∙ z)))
 
   pub serves-free : {r : Bool} → getD taken base 0 ≡ 0 → r ≡ allFrom (λ s. not (child s) || isFree bytes (base + s)) 1 symbols → r ≡ serves bytes taken child base
   unfolding serves

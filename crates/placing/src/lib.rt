@@ -49,12 +49,30 @@ fn are_usable(cells: &[u8], mask: &[u8], base: u16) -> bool
     true
 }
 
-// Does a base serve: no path has it, and the cells it needs are free?
-fn is_serving(cells: &[u8], taken: &[u8], mask: &[u8], base: u16) -> bool
-    requires { ⌜ (symbols < length (now mask)) × (base < length (now taken)) ⌝ }
+// A symbol to try before the others: the first that is marked.
+fn first_marked(mask: &[u8]) -> u8
+    requires { ⌜ symbols < length (now mask) ⌝ }
+    ensures { λ r. ⌜ (1 ≤ r) × (r ≤ symbols) ⌝ }
+{
+    let mut symbol: u8 = 1;
+    while symbol < base::SYMBOLS {
+        if mask[symbol as usize] == 1 {
+            return symbol;
+        }
+        symbol += 1;
+    }
+    symbol
+}
+
+// Does a base serve: no path has it, and the cells it needs are free? One symbol's cell is tried first, which decides most bases.
+fn is_serving(cells: &[u8], taken: &[u8], mask: &[u8], base: u16, first: u8) -> bool
+    requires { ⌜ (symbols < length (now mask)) × (base < length (now taken)) × (1 ≤ first) × (first ≤ symbols) ⌝ }
     ensures { λ r. ⌜ r ≡ serves (now (cells .entry)) (now (taken .entry)) (marked (now (mask .entry))) base ⌝ }
 {
     if taken[base as usize] != 0 {
+        return false;
+    }
+    if !is_usable(cells, base, first, mask[first as usize]) {
         return false;
     }
     are_usable(cells, mask, base)
@@ -65,9 +83,10 @@ fn find_base(cells: &[u8], taken: &[u8], mask: &[u8]) -> u16
     requires { ⌜ (symbols < length (now mask)) × (length (now taken) ≡ 8192) ⌝ }
     ensures { λ r. ⌜ r ≡ smallest (serves (now (cells .entry)) (now (taken .entry)) (marked (now (mask .entry)))) 1 (8192 - 1) ⌝ }
 {
+    let first = first_marked(mask);
     let mut base: u16 = 1;
     while base < 8192 {
-        if is_serving(cells, taken, mask, base) {
+        if is_serving(cells, taken, mask, base, first) {
             return base;
         }
         base += 1;

@@ -1,24 +1,27 @@
-use borrow.Author.Needs.{needs}
-use Prim.Native.Nat.{_≤_, _-_}
-use mathlib.Core.Path.{_≡_, refl, sym, _∙_}
-use native.Mathlib.Omega.{arith}
-use Rattle.fit.specs.Cells.{serves, smallest}
-use Rattle.placing.specs.Post.{marked}
 use Rattle.placing.proofs.Laws.{smallest-here, smallest-on, smallest-end}
+use Rattle.placing.specs.Post.{marked}
+use Rattle.fit.specs.Cells.{serves, smallest}
+use native.Mathlib.Omega.{arith}
+use mathlib.Core.Path.{_≡_, refl, sym, _∙_}
+use Prim.Native.Nat.{_≤_, _-_}
+use borrow.Author.Needs.{needs}
 use Rattle.placing.proofs.find_base.Statement.{statement}
 use Rattle.placing.proofs.find_base.Tie as tie
 
 abbrev Inv-loop : tie.InvT-loop
-Inv-loop cells taken mask base₀ base = (base ≤ 8192) × (smallest (serves cells taken (marked mask)) 1 (8192 - 1) ≡ smallest (serves cells taken (marked mask)) base (8192 - base))
+Inv-loop cells taken mask first base₀ base = (base ≤ 8192) × (smallest (serves cells taken (marked mask)) 1 (8192 - 1) ≡ smallest (serves cells taken (marked mask)) base (8192 - base))
 
 abbrev μ-loop : tie.MeasureT-loop
-μ-loop cells taken mask base₀ base = 8192 - base
+μ-loop cells taken mask first base₀ base = 8192 - base
+
+first-marked-requires : tie.Need-first-marked-requires Inv-loop μ-loop
+first-marked-requires c κs = search needs
 
 loop-holds : tie.Need-loop-holds Inv-loop μ-loop
 loop-holds c = (search needs, refl)
 
 is-serving-requires : tie.Need-is-serving-requires Inv-loop μ-loop
-is-serving-requires c κs = (c .before .before .before .before .before .pre .0, omega (arith, c .before .before .before .before .before .pre .1, c .loop-test .taken))
+is-serving-requires c κs = (c .before .before .before .before .before .before .pre .0, omega (arith, c .before .before .before .before .before .before .pre .1, c .loop-test .taken), c .before .before .first-marked .ensures .0, c .before .before .first-marked .ensures .1)
 
 returns : tie.Need-returns Inv-loop μ-loop
 returns c = sym (c .before .before .before .loop .inv .1 ∙ smallest-here _ _ 8192 (c .before .before .loop-test .taken) (sym (c .before .is-serving .ensures) ∙ c .if1 .taken))
@@ -41,6 +44,7 @@ find-base-spec =
     (tie.spec
     Inv-loop
     μ-loop
+    first-marked-requires
     loop-holds
     is-serving-requires
     returns
