@@ -25,7 +25,7 @@ use Rattle.walk.proofs.Raised.{raised-at}
 use Rattle.hyphenation.specs.Sheet.{sheetFrom, sheet, written, bit}
 use Rattle.hyphenation.specs.Levels.{levelAt, levelSheet, wordLooks}
 use Rattle.hyphenation.specs.Breaks.{mark, breakSheet, unlessListed, breakLooks}
-use Rattle.hyphenation.specs.Post.{Done, lineSheet, oddSheet}
+use Rattle.hyphenation.specs.Post.{Done, lineSheet, oddSheet, Silent}
 use Rattle.hyphenation.proofs.Laws.{sheet-length, sheet-at}
 
 -- a room that has a sheet, byte by byte
@@ -56,6 +56,41 @@ written-is f d a h l low high = ext-getD 0 a (written (sheet f) d) (l ∙ sym (w
     at : (i : ℕ) → i < length a → Dec (i < roomSize) → getD a i 0 ≡ getD (written (sheet f) d) i 0
     at i k (yes p) = low i p ∙ sym (written-low f d i p)
     at i k (no p) = high i (omega arith) (omega arith) ∙ sym (written-high f d i (omega arith))
+
+-- a gap behind the last letter is no inner one
+outer : (n i : ℕ) → n ≤ i → inner n i ≡ false
+unfolding inner
+outer n i h = rw (le-ltb i n h) (and-no (leb 1 i))
+  where
+    and-no : (b : Bool) → (b && false) ≡ false
+    and-no true = refl
+    and-no false = refl
+
+-- breaks kept up to the last letter are those of the whole sheet
+pub kept-all : (left right n : ℕ) (d room : List ℕ) (i : ℕ) → roomSize ≤ length d → n ≤ roomSize → Silent n d → i ≤ n → n ≤ i → length room ≡ length d
+    → room ≡ sheetFrom (λ j. bit (levelBreak left right n (λ k. getD d k 0) j)) 0 i ++ drop i d
+    → room ≡ written (sheet (λ j. bit (levelBreak left right n (λ k. getD d k 0) j))) d
+kept-all left right n d room i h m s a b l e = written-is f d room h l (λ j k. low j k (decLt j n)) (λ j k o. behind j (omega arith))
+  where
+    f : ℕ → ℕ
+    f = λ j. bit (levelBreak left right n (λ k. getD d k 0) j)
+
+    behind : (j : ℕ) → n ≤ j → getD room j 0 ≡ getD d j 0
+    behind j k =
+        let z : j ≡ length (sheetFrom f 0 i) + (j - i) = omega (arith, sheet-length f 0 i) in
+        let y : i + (j - i) ≡ j = omega arith in
+        ap (λ (r : List ℕ). getD r j 0) e
+        ∙ ap (λ (k : ℕ). getD (sheetFrom f 0 i ++ drop i d) k 0) z
+        ∙ getD-append-add (sheetFrom f 0 i) (drop i d) (j - i) 0
+        ∙ getD-drop i d (j - i) 0
+        ∙ ap (λ (k : ℕ). getD d k 0) y
+
+    none : (j : ℕ) → n ≤ j → f j ≡ 0
+    none j k = unfold levelBreak in rw (outer n j k)
+
+    low : (j : ℕ) → j < roomSize → Dec (j < n) → getD room j 0 ≡ f j
+    low j k (yes p) = ap (λ (r : List ℕ). getD r j 0) e ∙ List·getD-append (sheetFrom f 0 i) (drop i d) 0 j (omega (arith, sheet-length f 0 i)) ∙ sheet-at f 0 i j (omega arith) ∙ ap f (omega arith)
+    low j k (no p) = behind j (omega arith) ∙ s j (omega arith) k ∙ sym (none j (omega arith))
 
 pub sheet-same : (f g : ℕ → ℕ) → ((i : ℕ) → i < roomSize → f i ≡ g i) → sheet f ≡ sheet g
 unfolding sheet
@@ -116,6 +151,10 @@ module _ (cells entries : List ℕ) (root : ℕ) (word room : List ℕ) (short :
       let t : take (length word) word ≡ word = take-all (length word) word (omega arith) in
       let v = rw (m, t) at w in
       record { counted = v .counted; memory = v .raised ∙ levels-room }
+
+  pub levels-silent : {count : ℕ} {levels : List ℕ} → Done (levelSheet cells entries root word) (wordLooks cells root word) room count levels → Silent (length word) levels
+  unfolding levelSheet levelAt
+  levels-silent d i h k = rw (d .memory, written-low (levelAt cells entries root word) room i k, outer (length word) i h)
 
   pub breaks-done : (left right : ℕ) {count : ℕ} {levels after : List ℕ} → Done (levelSheet cells entries root word) (wordLooks cells root word) room count levels
       → after ≡ written (sheet (λ i. bit (levelBreak left right (length word) (λ k. getD levels k 0) i))) levels

@@ -10,7 +10,7 @@ ghost use Rattle.liang.specs.Breaks.{badMargin, levelBreak};
 ghost use Rattle.hyphenation.specs.Sheet.{sheet, written, nonzero, bit};
 ghost use Rattle.hyphenation.specs.Levels.{levelSheet, wordLooks};
 ghost use Rattle.hyphenation.specs.Breaks.{mark, breakSheet, breakLooks};
-ghost use Rattle.hyphenation.specs.Post.{Done, lineSheet, oddSheet};
+ghost use Rattle.hyphenation.specs.Post.{Done, lineSheet, oddSheet, Silent};
 ghost use Rattle.hyphenation.specs.Calls.{judgeRoom, judgeMargins, judgeLevels, judgeHyphenate, Levels, Breaks, WordBreaks};
 
 // What a call answers: how many bytes of the room it set, with the count of looks, or why it refuses.
@@ -165,13 +165,13 @@ fn break_at(left: usize, right: usize, n: usize, level: u8, i: usize) -> u8
     level % 2
 }
 
-// The levels of a room turned into breaks.
+// The levels of a word of n letters turned into breaks.
 fn keep_breaks(left: usize, right: usize, n: usize, room: &mut [u8])
-    requires { ⌜ roomSize ≤ length (now room) ⌝ }
+    requires { ⌜ (roomSize ≤ length (now room)) × (n ≤ roomSize) × Silent n (now room) ⌝ }
     ensures { λ _. ⌜ now (room .exit) ≡ written (sheet (λ i. bit (levelBreak left right n (λ k. getD (now (room .entry)) k 0) i))) (now (room .entry)) ⌝ }
 {
     let mut i = 0;
-    while i < base::ROOM {
+    while i < n {
         room[i] = break_at(left, right, n, room[i], i);
         i += 1;
     }

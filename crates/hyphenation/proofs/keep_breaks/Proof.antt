@@ -7,15 +7,16 @@ use lib.ListN.{length, getD, drop, length-set}
 use Rattle.base.specs.Limits.{roomSize}
 use Rattle.liang.specs.Breaks.{levelBreak}
 use Rattle.hyphenation.specs.Sheet.{sheetFrom, bit}
-use Rattle.hyphenation.proofs.Laws.{fill-start, fill-read, fill-turn, fill-end, break-level}
+use Rattle.hyphenation.proofs.Laws.{fill-start, fill-read, fill-turn, break-level}
+use Rattle.hyphenation.proofs.Rooms.{kept-all}
 use Rattle.hyphenation.proofs.keep_breaks.Statement.{statement}
 use Rattle.hyphenation.proofs.keep_breaks.Tie as tie
 
 abbrev Inv-loop : tie.InvT-loop
-Inv-loop left right n room₀ i₀ room i = (i ≤ roomSize) × (length room ≡ length room₀) × (roomSize ≤ length room₀) × (room ≡ sheetFrom (λ j. bit (levelBreak left right n (λ k. getD room₀ k 0) j)) 0 i ++ drop i room₀)
+Inv-loop left right n room₀ i₀ room i = (i ≤ n) × (length room ≡ length room₀) × (roomSize ≤ length room₀) × (room ≡ sheetFrom (λ j. bit (levelBreak left right n (λ k. getD room₀ k 0) j)) 0 i ++ drop i room₀)
 
 abbrev μ-loop : tie.MeasureT-loop
-μ-loop left right n room₀ i₀ room i = roomSize - i
+μ-loop left right n room₀ i₀ room i = n - i
 
 loop-holds : tie.Need-loop-holds Inv-loop μ-loop
 loop-holds c = (search needs, refl, search needs, fill-start _ _)
@@ -42,7 +43,7 @@ same-length : tie.Need-same-length Inv-loop μ-loop
 same-length c = search needs
 
 returns : tie.Need-returns Inv-loop μ-loop
-returns c = fill-end _ _ _ _ (c .before .loop .inv .0) (c .loop-test .left) (c .before .loop .inv .3)
+returns c = kept-all _ _ _ (c .before .before .before .args .room .now) _ _ (c .before .before .before .pre .0) (c .before .before .before .pre .1) (c .before .before .before .pre .2) (c .before .loop .inv .0) (c .loop-test .left) (c .before .loop .inv .1) (c .before .loop .inv .3)
 
 pub keep-breaks-spec : {M : Type 1} → statement M
 keep-breaks-spec =

@@ -1,5 +1,5 @@
 use borrow.Author.Needs.{needs}
-use Rattle.hyphenation.proofs.Rooms.{breaks-done}
+use Rattle.hyphenation.proofs.Rooms.{levels-silent, breaks-done}
 use Rattle.hyphenation.proofs.table_judged.Statement.{statement}
 use Rattle.hyphenation.proofs.table_judged.Tie as tie
 
@@ -7,7 +7,7 @@ levels-judged-requires : tie.Need-levels-judged-requires
 levels-judged-requires c κs = search needs
 
 keep-breaks-requires : tie.Need-keep-breaks-requires
-keep-breaks-requires c κs = search needs
+keep-breaks-requires c κs = (search needs, search needs, levels-silent _ _ _ (c .before .before .before .before .before .before .before .before .before .args .word .now) (c .before .before .before .before .before .before .before .before .before .args .room .now) (c .before .before .before .before .before .before .before .before .before .pre .0) (c .before .before .before .before .before .before .before .before .before .pre .1) (c .before .before .before .levels-judged .ensures))
 
 same-length : tie.Need-same-length
 same-length c = search needs
