@@ -158,8 +158,8 @@ pub fn levels(word: &[u8], table: &[u8], room: &mut [u8]) -> Result<Found, Refus
 
 /// Packs a pattern list into `room` and tells the table's length.
 ///
-/// The first [`PACK_ROOM`] bytes behind the table become 0, later ones stay as
-/// they are. Ground 11 sets all of the first [`PACK_ROOM`] bytes to 0; the
+/// The bytes behind the table, up to [`PACK_ROOM`], become 0; later ones stay
+/// as they are. Ground 11 sets all of the first [`PACK_ROOM`] bytes to 0; the
 /// other refusals leave the room as it was.
 ///
 /// # Errors
