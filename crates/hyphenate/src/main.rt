@@ -198,13 +198,9 @@ fn take_words<'a>(
 
 // The last line.
 fn print_sums(words: u64, refused: u64, probes: u64) {
-    io::write_all(1, b"words ");
-    io::print_decimal(1, words);
-    io::write_all(1, b" refused ");
-    io::print_decimal(1, refused);
-    io::write_all(1, b" probes ");
-    io::print_decimal(1, probes);
-    io::write_all(1, b"\n");
+    let mut line = [0u8; 128];
+    let end = report::put_sums(words, refused, probes, &mut line, 0);
+    io::write_all(1, &line[0..end]);
 }
 
 // The words over judged lists and a packed table. Without the last line the words were not all read or written.

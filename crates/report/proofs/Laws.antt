@@ -8,7 +8,7 @@ use lib.ListN.{length, getD, drop, drop-of-length-le}
 use Rattle.base.proofs.Lists.{cons-at}
 use Rattle.words.specs.Symbols.{hyphen}
 use Rattle.report.specs.Put.{Put}
-use Rattle.report.specs.Report.{space, lineFeed, lastDigit, digits, decimal, letterWith, hyphenated, field, listField, toldLine}
+use Rattle.report.specs.Report.{space, lineFeed, lastDigit, digits, decimal, letterWith, hyphenated, field, listField, toldLine, counted, wordsLabel, refusedLabel, probesLabel, sumsLine}
 use Rattle.report.proofs.Going.{Going, go-start, go-fits, go-step, go-end, go-last, first-fits, second-fits, both-put}
 
 -- digits
@@ -154,3 +154,47 @@ module _ (marks word : List ℕ) (at : ℕ) (room : List ℕ) (h : at + length (
 
     pub line-put : {next : ℕ} {after : List ℕ} → Put (lineFeed ∷ []) end now next after → Put (hyphenated marks word ++ (lineFeed ∷ [])) at room next after
     line-put = both-put (hyphenated marks word) (lineFeed ∷ []) refl at room h p
+
+-- a label and a number
+module _ (label : List ℕ) (n at : ℕ) (room : List ℕ) (h : at + length (counted label n) ≤ length room) where
+  pub label-fits : at + length label ≤ length room
+  label-fits = first-fits label (field n) refl at room h
+
+  module _ {end : ℕ} {now : List ℕ} (p : Put label at room end now) where
+    pub count-fits : end + length (field n) ≤ length now
+    count-fits = second-fits label (field n) refl at room h p
+
+    pub counted-put : {next : ℕ} {after : List ℕ} → Put (field n) end now next after → Put (counted label n) at room next after
+    counted-put = both-put label (field n) refl at room h p
+
+-- the last line, part by part
+module _ (words refused probes at : ℕ) (room : List ℕ) (h : at + length (sumsLine words refused probes) ≤ length room) where
+  sums₀ : Going (sumsLine words refused probes) at room (sumsLine words refused probes) at room
+  sums₀ = go-start (sumsLine words refused probes) at room h
+
+  pub words-fit : at + length (counted wordsLabel words) ≤ length room
+  words-fit = go-fits room (counted wordsLabel words) (counted refusedLabel refused ++ (counted probesLabel probes ++ (lineFeed ∷ []))) refl sums₀
+
+  module _ {end₁ : ℕ} {room₁ : List ℕ} (p₁ : Put (counted wordsLabel words) at room end₁ room₁) where
+    sums₁ : Going (sumsLine words refused probes) at room (counted refusedLabel refused ++ (counted probesLabel probes ++ (lineFeed ∷ []))) end₁ room₁
+    sums₁ = go-step room (counted wordsLabel words) (counted refusedLabel refused ++ (counted probesLabel probes ++ (lineFeed ∷ []))) refl sums₀ p₁
+
+    pub refused-fit : end₁ + length (counted refusedLabel refused) ≤ length room₁
+    refused-fit = go-fits room₁ (counted refusedLabel refused) (counted probesLabel probes ++ (lineFeed ∷ [])) refl sums₁
+
+    module _ {end₂ : ℕ} {room₂ : List ℕ} (p₂ : Put (counted refusedLabel refused) end₁ room₁ end₂ room₂) where
+      sums₂ : Going (sumsLine words refused probes) at room (counted probesLabel probes ++ (lineFeed ∷ [])) end₂ room₂
+      sums₂ = go-step room₁ (counted refusedLabel refused) (counted probesLabel probes ++ (lineFeed ∷ [])) refl sums₁ p₂
+
+      pub probes-fit : end₂ + length (counted probesLabel probes) ≤ length room₂
+      probes-fit = go-fits room₂ (counted probesLabel probes) (lineFeed ∷ []) refl sums₂
+
+      module _ {end₃ : ℕ} {room₃ : List ℕ} (p₃ : Put (counted probesLabel probes) end₂ room₂ end₃ room₃) where
+        sums₃ : Going (sumsLine words refused probes) at room (lineFeed ∷ []) end₃ room₃
+        sums₃ = go-step room₂ (counted probesLabel probes) (lineFeed ∷ []) refl sums₂ p₃
+
+        pub sums-end-fits : end₃ + 1 ≤ length room₃
+        sums-end-fits = go-fits room₃ (lineFeed ∷ []) [] refl sums₃
+
+        pub sums-put : {end : ℕ} {after : List ℕ} → Put (lineFeed ∷ []) end₃ room₃ end after → Put (sumsLine words refused probes) at room end after
+        sums-put p₄ = go-last sums₃ p₄

@@ -1,4 +1,4 @@
--- A word's line: that it fits, and what it is.
+-- That every line fits, and what a word's line is.
 use Prim.Native.Nat.{ℕ, zero, suc, _+_, _*_, _/_, _≤_}
 use mathlib.Core.Bool.{Bool, true, false, cond}
 use mathlib.Core.List.{List, [], _∷_, _++_}
@@ -20,7 +20,7 @@ use Rattle.hyphenation.proofs.Laws.{sheet-length}
 use Rattle.hyphenation.proofs.Calls.{word-fits}
 use Rattle.hyphenation.proofs.Theorems.{finding}
 use Rattle.report.specs.Put.{Put}
-use Rattle.report.specs.Report.{question, lineFeed, lineLimit, lastDigit, digits, letterWith, hyphenated, field, listField, refusalLine, Reports}
+use Rattle.report.specs.Report.{question, lineFeed, lineLimit, lastDigit, digits, letterWith, hyphenated, field, listField, refusalLine, Reports, counted, wordsLabel, refusedLabel, probesLabel, sumsLine}
 use Rattle.report.proofs.Going.{put-as}
 
 -- of two lists, whichever it is, neither is longer
@@ -71,6 +71,21 @@ front (x ∷ xs) ys (b ∷ word) h = ap (λ (l : List ℕ). letterWith x b ++ l)
 
 pub refusal-fits : (sign : ℕ) (g : Ground) (at n : ℕ) → at + lineLimit ≤ n → at + length (refusalLine sign g) ≤ n
 refusal-fits sign g at n h = omega (arith, refusal-short sign g)
+
+counted-short : (label : List ℕ) (n : ℕ) → length (counted label n) ≤ length label + 21
+counted-short label n = omega (arith, length-append label (field n), digits-short 19 n)
+
+pub sums-fit : (words refused probes at n : ℕ) → at + lineLimit ≤ n → at + length (sumsLine words refused probes) ≤ n
+sums-fit words refused probes at n h =
+    omega (
+      arith,
+      counted-short wordsLabel words,
+      counted-short refusedLabel refused,
+      counted-short probesLabel probes,
+      length-append (counted wordsLabel words) (counted refusedLabel refused ++ (counted probesLabel probes ++ (lineFeed ∷ []))),
+      length-append (counted refusedLabel refused) (counted probesLabel probes ++ (lineFeed ∷ [])),
+      length-append (counted probesLabel probes) (lineFeed ∷ []),
+    )
 
 module _ (left right : ℕ) (word customer house table marks : List ℕ) {answer : Answer} {after : List ℕ} (b : WordBreaks left right word customer house table marks answer after) where
   module _ {count looks : ℕ} (e : answer ≡ answers.Found count looks) where

@@ -68,6 +68,22 @@ abbrev pub wordLine : Answer → List ℕ → List ℕ → List ℕ
 wordLine (answers.Found marks looks) sheet word = hyphenated sheet word ++ (lineFeed ∷ [])
 wordLine (answers.Refused g) sheet word = refusalLine question g
 
+-- The last line: "words", "refused" and "probes", each with its number.
+abbrev pub counted : List ℕ → ℕ → List ℕ
+counted label n = label ++ field n
+
+abbrev pub wordsLabel : List ℕ
+wordsLabel = 119 ∷ 111 ∷ 114 ∷ 100 ∷ 115 ∷ []
+
+abbrev pub refusedLabel : List ℕ
+refusedLabel = 32 ∷ 114 ∷ 101 ∷ 102 ∷ 117 ∷ 115 ∷ 101 ∷ 100 ∷ []
+
+abbrev pub probesLabel : List ℕ
+probesLabel = 32 ∷ 112 ∷ 114 ∷ 111 ∷ 98 ∷ 101 ∷ 115 ∷ []
+
+abbrev pub sumsLine : ℕ → ℕ → ℕ → List ℕ
+sumsLine words refused probes = counted wordsLabel words ++ (counted refusedLabel refused ++ (counted probesLabel probes ++ (lineFeed ∷ [])))
+
 -- The looks that the program's "probes" sum: those of an answer, none where the word is refused.
 abbrev pub looksOf : Answer → ℕ
 looksOf (answers.Found marks looks) = looks

@@ -7,7 +7,7 @@ ghost use Prim.Native.Nat.{_+_, _≤_};
 ghost use lib.ListN.{length};
 ghost use Rattle.base.specs.Limits.{roomSize};
 ghost use Rattle.report.specs.Put.{Put};
-ghost use Rattle.report.specs.Report.{lineFeed, lineLimit, digits, decimal, letterWith, hyphenated, field, listField, toldLine, refusalLine, Reports};
+ghost use Rattle.report.specs.Report.{lineFeed, lineLimit, digits, decimal, letterWith, hyphenated, field, listField, toldLine, refusalLine, counted, sumsLine, Reports};
 
 // Every line of a word fits into this many bytes (specs/Report.antt, lineLimit).
 pub const LINE: usize = 128;
@@ -29,7 +29,7 @@ fn put_byte(b: u8, room: &mut [u8], at: usize) -> usize
 }
 
 // Bytes as they stand.
-pub fn put_text(text: &[u8], room: &mut [u8], at: usize) -> usize
+fn put_text(text: &[u8], room: &mut [u8], at: usize) -> usize
     requires { ⌜ at + length (now text) ≤ length (now room) ⌝ }
     ensures { λ r. ⌜ Put (now (text .entry)) at (now (room .entry)) r (now (room .exit)) ⌝ }
 {
@@ -59,7 +59,7 @@ fn put_digits(more: usize, n: u64, room: &mut [u8], at: usize) -> usize
 }
 
 // A number in decimal digits.
-pub fn put_decimal(n: u64, room: &mut [u8], at: usize) -> usize
+fn put_decimal(n: u64, room: &mut [u8], at: usize) -> usize
     requires { ⌜ at + length (decimal n) ≤ length (now room) ⌝ }
     ensures { λ r. ⌜ Put (decimal n) at (now (room .entry)) r (now (room .exit)) ⌝ }
 {
@@ -107,6 +107,26 @@ pub fn put_refusal(sign: u8, ground: Ground, room: &mut [u8], at: usize) -> usiz
     let list = base::list_of(ground);
     let place = base::place_of(ground);
     put_told(sign, number as u64, list as u64, place as u64, room, at)
+}
+
+// A label and a number.
+fn put_counted(label: &[u8], n: u64, room: &mut [u8], at: usize) -> usize
+    requires { ⌜ at + length (counted (now label) n) ≤ length (now room) ⌝ }
+    ensures { λ r. ⌜ Put (counted (now (label .entry)) n) at (now (room .entry)) r (now (room .exit)) ⌝ }
+{
+    let end = put_text(label, room, at);
+    put_field(n, room, end)
+}
+
+// The last line of the words: how many, how many refused, and how many cells were looked at.
+pub fn put_sums(words: u64, refused: u64, probes: u64, room: &mut [u8], at: usize) -> usize
+    requires { ⌜ at + length (sumsLine words refused probes) ≤ length (now room) ⌝ }
+    ensures { λ r. ⌜ Put (sumsLine words refused probes) at (now (room .entry)) r (now (room .exit)) ⌝ }
+{
+    let first = put_counted(b"words", words, room, at);
+    let second = put_counted(b" refused", refused, room, first);
+    let third = put_counted(b" probes", probes, room, second);
+    put_byte(10, room, third)
 }
 
 // A letter, with a hyphen before it where it has a mark.
