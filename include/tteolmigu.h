@@ -7,8 +7,9 @@
  *
  * Lent memory. Every text, table and room is a pointer and a size in bytes. A pointer must not be null, even where the size is 0, and
  * must have as many bytes as the size says. Only 'room' is written; it must not overlap any other argument. Texts and tables may hold
- * any bytes: each call ends with a finding or with a numbered refusal, whatever they hold. The deepest call (pack) takes some 20 KB of
- * stack, a hostile table up to 2,048 nested calls of a small function in levels and hyphenate.
+ * any bytes: each call ends with a finding or with a numbered refusal, whatever they hold. Pack takes some 20 KB of stack. Levels,
+ * hyphenate and check follow a chain of entries by nested calls, at most 2,048 of 64 bytes each as compiled today: 128 KB for a table
+ * with as many entries as there may be, and little for the tables that pack makes.
  *
  * Answers. Each call returns one number of 64 bits. Bits 56 to 63 are 0 for a finding, else the number of the ground on which the call
  * refuses. A refusal tells in bits 48 to 55 the exception list it speaks of (1 the customer's, 2 the house's, 0 none) and in bits 0 to
