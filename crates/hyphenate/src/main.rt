@@ -198,15 +198,15 @@ fn take_words<'a>(
 
 // The last line.
 fn print_sums(words: u64, refused: u64, probes: u64) {
-    let mut line = [0u8; 128];
+    let mut line = [0u8; report::LINE];
     let end = report::put_sums(words, refused, probes, &mut line, 0);
     io::write_all(1, &line[0..end]);
 }
 
 // The words over judged lists and a packed table. Without the last line the words were not all read or written.
 fn print_words<'a>(customer: &'a [u8], house: &'a [u8], table: &[u8]) {
-    let mut held = [0u8; 64];
-    let mut marks = [0u8; 64];
+    let mut held = [0u8; base::WORD_LIMIT + 1];
+    let mut marks = [0u8; base::ROOM];
     let mut out = io::large_buffer();
     let start = State {
         held: 0,
@@ -255,9 +255,9 @@ fn run<'a>(patterns: &[u8], customer: &'a [u8], house: &'a [u8]) {
 
 // A file is read with room for one byte more than its limit, so that a longer one is told from one that has just as many.
 fn main() {
-    let mut patterns = [0u8; 32769];
-    let mut customer = [0u8; 8193];
-    let mut house = [0u8; 8193];
+    let mut patterns = [0u8; base::PATTERN_TEXT + 1];
+    let mut customer = [0u8; base::EXCEPTION_TEXT + 1];
+    let mut house = [0u8; base::EXCEPTION_TEXT + 1];
     let first = console::read_argument(1, &mut patterns);
     let second = console::read_argument(2, &mut customer);
     let third = console::read_argument(3, &mut house);

@@ -44,7 +44,7 @@ fn run(patterns: &[u8]) {
 
 // The file is read with room for one byte more than its limit, so that a longer one is told from one that has just as many.
 fn main() {
-    let mut patterns = [0u8; 32769];
+    let mut patterns = [0u8; base::PATTERN_TEXT + 1];
     let read = console::read_argument(1, &mut patterns);
     if !read.done {
         io::write_all(1, b"! 0 0\n");

@@ -10,7 +10,7 @@ ghost use Rattle.report.specs.Put.{Put};
 ghost use Rattle.report.specs.Report.{lineFeed, lineLimit, digits, decimal, letterWith, hyphenated, field, listField, toldLine, refusalLine, counted, sumsLine, Reports};
 
 // Every line of a word fits into this many bytes (specs/Report.antt, lineLimit).
-pub const LINE: usize = 128;
+pub const LINE: usize = 2 * base::WORD_LIMIT + 2;
 
 // What came of a word: where its line ends, how many cells were looked at, and whether it was refused.
 pub struct Line {

@@ -12,8 +12,8 @@ fn run(patterns: &[u8], table: &[u8]) {
 
 // Each file is read with room for one byte more than its limit, so that a longer one is told from one that has just as many.
 fn main() {
-    let mut patterns = [0u8; 32769];
-    let mut table = [0u8; 59399];
+    let mut patterns = [0u8; base::PATTERN_TEXT + 1];
+    let mut table = [0u8; base::PACK_ROOM + 1];
     let first = console::read_argument(1, &mut patterns);
     let second = console::read_argument(2, &mut table);
     if !(first.done && second.done) {
