@@ -19,6 +19,7 @@ use Rattle.hyphenation.specs.Levels.{levelSheet, wordLooks}
 use Rattle.hyphenation.specs.Breaks.{breakSheet, breakLooks}
 use Rattle.hyphenation.specs.Post.{Done}
 use Rattle.hyphenation.specs.Calls.{rootBase, judgeRoom, judgeMargins, judgeLevels, judgeHyphenate, Answered, breaksSheet, breaksLooks}
+use Rattle.hyphenation.specs.declared.Answer.{Answer}
 use Rattle.hyphenation.specs.declared.Answer.the-variants as answers
 use Rattle.hyphenation.proofs.Rooms.{written-take}
 
@@ -55,17 +56,21 @@ levels-found word table room p q c e d m =
       memory = d .memory ∙ rw (← p, q, ← c, ← e);
     }
 
--- a finding of the hyphenating call, with all judged in the call or only the word
-pub breaks-found : (left right : ℕ) (word customer house table room : List ℕ) {judged judgement : Check} → judged ≡ judgement → judged ≡ Fine
-    → {cells entries after : List ℕ} {marks looks : ℕ} → cells ≡ cellsOf table → entries ≡ entriesOf table
+-- a finding of the hyphenating call
+pub breaks-found : (left right : ℕ) (word customer house table room : List ℕ) {cells entries after : List ℕ} {marks looks : ℕ} → cells ≡ cellsOf table → entries ≡ entriesOf table
     → Done (breakSheet left right customer house cells entries rootBase word) (breakLooks customer house cells rootBase word) room looks after → marks ≡ nonzero (take roomSize after)
-    → Answered judgement (breaksSheet left right word customer house table) (breaksLooks word customer house table) room (answers.Found marks looks) after
+    → Answered Fine (breaksSheet left right word customer house table) (breaksLooks word customer house table) room (answers.Found marks looks) after
 unfolding breakSheet
-breaks-found left right word customer house table room p q c e d m =
+breaks-found left right word customer house table room c e d m =
     record {
-      answered = rw (← p, q, ← c, ← e, marked _ room (d .memory) m, d .counted);
-      memory = d .memory ∙ rw (← p, q, ← c, ← e);
+      answered = rw (← c, ← e, marked _ room (d .memory) m, d .counted);
+      memory = d .memory ∙ rw (← c, ← e);
     }
+
+-- what is found behind a judgement that refuses nothing
+pub found : (sheet : List ℕ) (looks : ℕ) (room : List ℕ) {judged judgement : Check} {r : Answer} {after : List ℕ} → judged ≡ judgement → judged ≡ Fine
+    → Answered Fine sheet looks room r after → Answered judgement sheet looks room r after
+found sheet looks room p q a = let e = sym p ∙ q in rw e a
 
 pub levels-sizes : (word table : List ℕ) (size : ℕ) {judged : Check} → judged ≡ judgeLevels word table size → judged ≡ Fine → (length word ≤ wordLimit) × (roomSize ≤ size)
 unfolding judgeLevels

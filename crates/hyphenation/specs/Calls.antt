@@ -93,6 +93,10 @@ abbrev pub Breaks : (left right : ℕ) (word customer house table room : List �
 Breaks left right word customer house table room = Answered (judgeHyphenate left right word customer house table (length room))
     (breaksSheet left right word customer house table) (breaksLooks word customer house table) room
 
+-- Its part behind all judgements.
+abbrev pub Found : (left right : ℕ) (word customer house table room : List ℕ) → Answer → List ℕ → Type 0
+Found left right word customer house table room = Answered Fine (breaksSheet left right word customer house table) (breaksLooks word customer house table) room
+
 -- The hyphenating call for a word alone, where margins, room, lists and table were judged before: grounds 2, 4 and 3 are left.
 abbrev pub wordAnswer : ℕ → ℕ → List ℕ → List ℕ → List ℕ → List ℕ → Answer
 wordAnswer left right word customer house table =

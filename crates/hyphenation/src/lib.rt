@@ -11,7 +11,7 @@ ghost use Rattle.hyphenation.specs.Sheet.{sheet, written, nonzero, bit};
 ghost use Rattle.hyphenation.specs.Levels.{levelSheet, wordLooks};
 ghost use Rattle.hyphenation.specs.Breaks.{mark, breakSheet, breakLooks};
 ghost use Rattle.hyphenation.specs.Post.{Done, lineSheet, oddSheet, Silent};
-ghost use Rattle.hyphenation.specs.Calls.{judgeRoom, judgeMargins, judgeLevels, judgeHyphenate, Levels, Breaks, WordBreaks};
+ghost use Rattle.hyphenation.specs.Calls.{judgeRoom, judgeMargins, judgeLevels, judgeHyphenate, Levels, Breaks, Found, WordBreaks};
 
 // What a call answers: how many bytes of the room it set, with the count of looks, or why it refuses.
 pub enum Answer {
@@ -242,6 +242,29 @@ fn breaks_judged<'a>(
     }
 }
 
+// The breaks of a judged word over judged lists and a judged table, as a finding.
+fn find_breaks<'a>(
+    left: usize,
+    right: usize,
+    word: &[u8],
+    customer: &'a [u8],
+    house: &'a [u8],
+    table: &[u8],
+    room: &mut [u8],
+) -> Answer
+    requires { ⌜ (length (now word) ≤ wordLimit) × (roomSize ≤ length (now room)) ⌝ }
+    ensures { λ r. ⌜ Found left right (now (word .entry)) (now (customer .entry)) (now (house .entry)) (now (table .entry)) (now (room .entry)) r (now (room .exit)) ⌝ }
+{
+    let cells = table::cells_of(table);
+    let entries = table::entries_of(table);
+    let looks = breaks_judged(left, right, word, customer, house, cells, entries, 0, room);
+    let marks = count_marks(room);
+    Answer::Found {
+        marks: marks,
+        looks: looks,
+    }
+}
+
 // The levels call.
 pub fn levels(word: &[u8], table: &[u8], room: &mut [u8]) -> Answer
     ensures { λ r. ⌜ Levels (now (word .entry)) (now (table .entry)) (now (room .entry)) r (now (room .exit)) ⌝ }
@@ -276,14 +299,7 @@ pub fn hyphenate<'a>(
     if let Check::Refused(g) = judged {
         return Answer::Refused(g);
     }
-    let cells = table::cells_of(table);
-    let entries = table::entries_of(table);
-    let looks = breaks_judged(left, right, word, customer, house, cells, entries, 0, room);
-    let marks = count_marks(room);
-    Answer::Found {
-        marks: marks,
-        looks: looks,
-    }
+    find_breaks(left, right, word, customer, house, table, room)
 }
 
 // The hyphenating call for a word, where margins, room, lists and table were judged before: whoever has many words judges these
@@ -304,12 +320,5 @@ pub fn hyphenate_word<'a>(
     if let Check::Refused(g) = judged {
         return Answer::Refused(g);
     }
-    let cells = table::cells_of(table);
-    let entries = table::entries_of(table);
-    let looks = breaks_judged(left, right, word, customer, house, cells, entries, 0, room);
-    let marks = count_marks(room);
-    Answer::Found {
-        marks: marks,
-        looks: looks,
-    }
+    find_breaks(left, right, word, customer, house, table, room)
 }
