@@ -12,7 +12,7 @@ use Rattle.hyphenation.specs.declared.Answer.the-variants as answers
 use Rattle.packer.specs.declared.Packing.{Packing}
 use Rattle.packer.specs.declared.Packing.the-variants as packings
 
--- The last `width` bits of a number, from bit `low` on.
+-- A number, cut to its last `width` bits, as it stands from bit `low` on.
 abbrev pub bitsAt : ℕ → ℕ → ℕ → ℕ
 bitsAt low width n = n % 2 ^ width * 2 ^ low
 

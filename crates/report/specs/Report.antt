@@ -15,15 +15,12 @@ use Rattle.hyphenation.specs.declared.Answer.the-variants as answers
 use Rattle.report.specs.Put.{Put}
 use Rattle.report.specs.declared.Line.{Line}
 
--- The bytes of " ", "?", "!" and the line feed.
+-- The bytes of " ", "?" and the line feed.
 abbrev pub space : ℕ
 space = 32
 
 abbrev pub question : ℕ
 question = 63
-
-abbrev pub exclamation : ℕ
-exclamation = 33
 
 abbrev pub lineFeed : ℕ
 lineFeed = 10
@@ -50,7 +47,7 @@ hyphenated marks [] = []
 hyphenated [] (b ∷ word) = b ∷ hyphenated [] word
 hyphenated (mark ∷ marks) (b ∷ word) = letterWith mark b ++ hyphenated marks word
 
--- "!", number and place ("for ground 6 list, then offset"), "0 where none".
+-- A sign ("?" for a word, "!" for a list or a packing), number and place ("for ground 6 list, then offset"), "0 where none".
 abbrev pub field : ℕ → List ℕ
 field n = space ∷ decimal n
 

@@ -1,6 +1,6 @@
 //! Exception lists, good and bad.
 
-use super::lists::{join, split};
+use super::lists::{join, split, spoil_text};
 use super::words::small;
 use crate::reference::WORD_LIMIT;
 use crate::rng::Rng;
@@ -69,26 +69,7 @@ pub fn bad(rng: &mut Rng, good: &[u8]) -> Vec<u8> {
     }
     let place = rng.below(lines.len());
     spoil(rng, &mut lines, place);
-    let mut text = join(&lines);
-    match rng.below(8) {
-        0 => {
-            text.pop();
-        }
-        1 => {
-            let place = rng.below(text.len());
-            text[place] = rng.byte();
-        }
-        2 => {
-            let place = rng.range(0, text.len());
-            text.insert(place, *rng.pick(b"\n-.1Aaz \r"));
-        }
-        3 => {
-            let place = rng.below(text.len());
-            text.remove(place);
-        }
-        _ => (),
-    }
-    text
+    spoil_text(rng, join(&lines), b"\n-.1Aaz \r")
 }
 
 /// Spoils one of the lines, or their order.

@@ -131,7 +131,12 @@ pub fn bad(rng: &mut Rng, list: &[Pattern]) -> Vec<u8> {
     }
     let place = rng.below(lines.len());
     spoil(rng, &mut lines, place);
-    let mut text = join(&lines);
+    spoil_text(rng, join(&lines), b"\n.0123456789-Aaz \r")
+}
+
+/// Now and then spoils a text that isn't empty by one byte: the last left out,
+/// or one changed, added (one of `odd`) or removed anywhere.
+pub fn spoil_text(rng: &mut Rng, mut text: Vec<u8>, odd: &[u8]) -> Vec<u8> {
     match rng.below(8) {
         0 => {
             text.pop();
@@ -142,7 +147,7 @@ pub fn bad(rng: &mut Rng, list: &[Pattern]) -> Vec<u8> {
         }
         2 => {
             let place = rng.range(0, text.len());
-            text.insert(place, *rng.pick(b"\n.0123456789-Aaz \r"));
+            text.insert(place, *rng.pick(odd));
         }
         3 => {
             let place = rng.below(text.len());
