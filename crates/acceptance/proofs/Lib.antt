@@ -1,8 +1,10 @@
+pub mod Strings
 pub mod Order
 pub mod Loops
-pub mod Next
-pub mod Follow
 pub mod Nodes
+pub mod Follow
+pub mod Alike
+pub mod Checked
 pub mod Test
 pub mod Lists
 pub mod Theorems

@@ -2,7 +2,7 @@
 use Prim.Native.Nat.{ℕ, zero, suc, _+_, _*_, _-_, _≤_, _<_}
 use mathlib.Core.Bool.{Bool, true, false, cond, not, _&&_, _||_, and-false}
 use mathlib.Core.List.{List, [], _∷_, map}
-use mathlib.Core.Path.{_≡_, refl, sym, _∙_, ap}
+use mathlib.Core.Path.{_≡_, refl}
 use native.Mathlib.Omega.{arith}
 use borrow.Author.Tests.{leb-true, le-leb, eqb-true, eqb-false, not-false}
 use lib.Dec.{leb, eqb}
@@ -14,7 +14,7 @@ use Rattle.base.specs.declared.Ground.the-variants.{TableForm}
 use Rattle.base.proofs.Grounds.{both-fine, not-refused}
 use Rattle.base.proofs.Lists.{never}
 use Rattle.words.specs.Symbols.{dot, small, digit, symbolOf, symbolsOf}
-use Rattle.words.proofs.Laws.{range-high, small-not-digit, small-symbol, other-symbol, digit-not-dot}
+use Rattle.words.proofs.Laws.{range-high, small-symbol}
 use Rattle.lines.specs.Lines.{cut, anyOf, patternForm, goodPattern}
 use Rattle.lists.specs.Lists.{goodLine, firstBad, judgeLines, judgeSize, badPattern, judgePatterns}
 use Rattle.lists.specs.declared.Form.{Form}
@@ -23,6 +23,7 @@ use Rattle.lists.specs.declared.Lines.{Lines}
 use Rattle.lists.specs.declared.Lines.the-variants.{Good, BadAt}
 use Rattle.lists.proofs.Theorems.{passed, ascending}
 use Rattle.liang.specs.Patterns.{levelsFrom, patternOf, patternsOf}
+use Rattle.patterns.proofs.Laws.{line-levels}
 use Rattle.table.specs.Table.{headSize, cellSize, entrySize, cellCount, entryCount, formed, judgeTable, cellsOf, entriesOf}
 use Rattle.right.specs.Paths.{allSymbols, nth}
 use Rattle.accepted.specs.Shaped.{Shaped}
@@ -67,27 +68,6 @@ line-some (b ∷ t) e = go (small b) refl e (line-some t)
     go : (z : Bool) → small b ≡ z → (z || anyOf small t) ≡ true → (anyOf small t ≡ true → 0 < length (symbolsOf t)) → 0 < length (symbolsOf (b ∷ t))
     go true p h next = rw (small-symbol b p) (omega arith)
     go false p h next = skip (eqb (symbolOf b) 0) (next h)
-
--- a digit is no symbol
-digit-symbol : (b : ℕ) → digit b ≡ true → eqb (symbolOf b) 0 ≡ true
-digit-symbol b d = go (small b) refl
-  where
-    go : (z : Bool) → small b ≡ z → eqb (symbolOf b) 0 ≡ true
-    go true p = never (sym (small-not-digit b p) ∙ d)
-    go false p = other-symbol b p (digit-not-dot b d)
-
--- one level more than symbols
-line-levels : (level : ℕ) (line : List ℕ) → length (levelsFrom level line) ≡ suc (length (symbolsOf line))
-unfolding levelsFrom symbolsOf
-line-levels level [] = refl
-line-levels level (b ∷ t) = go (digit b) refl (eqb (symbolOf b) 0) refl (λ l. line-levels l t)
-  where
-    go : (d : Bool) → digit b ≡ d → (z : Bool) → eqb (symbolOf b) 0 ≡ z → ((l : ℕ) → length (levelsFrom l t) ≡ suc (length (symbolsOf t)))
-        → length (cond d (levelsFrom (b - 48) t) (cond z (levelsFrom level t) (level ∷ levelsFrom 0 t))) ≡ suc (length (cond z (symbolsOf t) (symbolOf b ∷ symbolsOf t)))
-    go true p true q next = next (b - 48)
-    go true p false q next = never (sym q ∙ digit-symbol b p)
-    go false p true q next = next level
-    go false p false q next = ap suc (next 0)
 
 good-shaped : (line : List ℕ) → goodPattern line ≡ true → Shaped (patternOf line)
 unfolding goodPattern patternOf

@@ -1,6 +1,6 @@
 -- The test's loops over numbers and over records, each by what it asks of every one.
 use Prim.Native.Nat.{ℕ, zero, suc, _+_, _*_, _≤_, _<_}
-use mathlib.Core.Bool.{Bool, true, false, Bool·beq}
+use mathlib.Core.Bool.{Bool, true}
 use mathlib.Core.List.{List}
 use mathlib.Core.Path.{_≡_, refl}
 use native.Mathlib.Decide.{decLt}
@@ -9,26 +9,14 @@ use native.Mathlib.Omega.{arith}
 use borrow.Author.Tests.{eqb-true, eq-eqb}
 use lib.Dec.{eqb}
 use lib.ListN.{length, getD}
-use Rattle.base.proofs.Lists.{never}
 use Rattle.table.specs.Table.{cellKind, entryKind, cellSize, entrySize}
 use Rattle.liang.specs.Patterns.{Pattern}
 use Rattle.walk.specs.Chain.{chain}
 use Rattle.walk.specs.Raise.{highestSet}
 use Rattle.right.specs.Right.{Exact, Kinds, sound}
 use Rattle.right.specs.Test.{allFrom, kindsFrom, exactTest}
+use Rattle.right.proofs.All.{each-all}
 use Rattle.accepted.proofs.Strings.{both}
-
--- two tests that hold together agree
-pub beq-same : (a b : Bool) → Bool·beq a b ≡ true → a ≡ b
-beq-same true true e = refl
-beq-same true false e = never e
-beq-same false true e = never e
-beq-same false false e = refl
-
-pub same-beq : (a b : Bool) → (a ≡ true → b ≡ true) → (b ≡ true → a ≡ true) → Bool·beq a b ≡ true
-same-beq true b p q = rw (p refl)
-same-beq false true p q = never (q refl)
-same-beq false false p q = refl
 
 module _ (test : ℕ → Bool) where
   pub all-each : (k n : ℕ) → allFrom test k n ≡ true → (j : ℕ) → k ≤ j → j < k + n → test j ≡ true
@@ -40,11 +28,6 @@ module _ (test : ℕ → Bool) where
           → (allFrom test (suc k) n ≡ true → (j : ℕ) → suc k ≤ j → j < suc k + n → test j ≡ true) → test j ≡ true
       go (yes p) q next = next (q .1) j (omega arith) (omega arith)
       go (no p) q next = let i : j ≡ k = omega arith in rw i (q .0)
-
-  pub each-all : (k n : ℕ) → ((j : ℕ) → k ≤ j → j < k + n → test j ≡ true) → allFrom test k n ≡ true
-  unfolding allFrom
-  each-all k zero h = refl
-  each-all k (suc n) h = rw (h k (omega arith) (omega arith)) (each-all (suc k) n (λ j p q. h j (omega arith) (omega arith)))
 
 module _ (size kind : ℕ) (bytes : List ℕ) where
   step : (at j : ℕ) → at + size + size * j ≡ at + size * suc j

@@ -1,28 +1,25 @@
--- What the test asks at one string: its output, and how table and list go on behind it.
-use Prim.Native.Nat.{ℕ, _+_, _≤_, _<_}
-use mathlib.Core.Bool.{Bool, true, false, cond, _||_, Bool·beq}
+-- The node of a string, and how the table goes on behind it.
+use Prim.Native.Nat.{ℕ, suc, _+_, _-_, _≤_, _<_}
+use mathlib.Core.Bool.{Bool, true, false, cond, not, _||_}
 use mathlib.Core.List.{List, [], _∷_, _++_}
-use mathlib.Core.Logic.{_↔_}
-use mathlib.Core.Path.{_≡_, refl, sym, _∙_}
+use mathlib.Core.Path.{_≡_, refl, sym, _∙_, ap}
 use native.Mathlib.Omega.{arith}
-use borrow.Author.Tests.{eqb-true, eq-eqb, lt-leb, leb-false}
-use lib.Dec.{leb, eqb}
-use lib.ListN.{length, drop}
-use Rattle.base.specs.Limits.{symbols, patternLimit}
+use borrow.Author.Tests.{ltb-true, ltb-false, le-leb, lt-leb, eqb-true, eqb-false, not-true}
+use lib.Dec.{leb, ltb, eqb}
+use lib.ListN.{length, getD}
+use Rattle.base.specs.Limits.{symbols}
 use Rattle.base.proofs.Lists.{never}
-use Rattle.lines.specs.Lines.{isNil}
 use Rattle.table.specs.Table.{look}
 use Rattle.table.specs.declared.Look.{Look}
 use Rattle.table.specs.declared.Look.the-variants.{Hit, Miss}
-use Rattle.liang.specs.Patterns.{Pattern}
 use Rattle.liang.specs.Levels.{begins}
-use Rattle.right.specs.Paths.{onward, along, Beginning, nth}
-use Rattle.right.specs.Right.{Exact}
-use Rattle.right.specs.Test.{isHit, child, nextIn, childrenRight, exactTest, nodeRight}
+use Rattle.patterns.specs.Common.{common}
+use Rattle.right.specs.Paths.{onward, along}
+use Rattle.right.specs.Test.{Node, linked, rootAt, childAt, isHit, noneBetween, passedOver, besides}
+use Rattle.right.proofs.All.{each-all}
 use Rattle.accepted.proofs.Strings.{both}
-use Rattle.acceptance.proofs.Order.{Sorted, Block, New, block-new, whole-first, begins-whole, whole-nil}
-use Rattle.acceptance.proofs.Loops.{beq-same, same-beq, all-each, each-all, test-exact, exact-test}
-use Rattle.acceptance.proofs.Next.{next-beginning, beginning-next}
+use Rattle.acceptance.proofs.Strings.{begins-shared, begins-above, common-next}
+use Rattle.acceptance.proofs.Loops.{all-each}
 
 -- a string of two parts is followed part by part
 pub along-append : (cells : List ℕ) (base : ℕ) (u : List ℕ) (x : ℕ) (w : List ℕ) → 0 < length u
@@ -44,111 +41,109 @@ along-append cells base (s ∷ (t ∷ u)) x w h = go (look cells (base + s) s) (
         leaf true = refl
         leaf false = next link
 
-module _ (patterns : List Pattern) (cells : List ℕ) (root : ℕ) where
-  -- "every beginning is a path and every path is one", one symbol behind u
-  abbrev pub Alike : List ℕ → Type 0
-  Alike u = (s : ℕ) → 1 ≤ s → s ≤ symbols → (isHit (along cells root (u ++ (s ∷ []))) ≡ true) ↔ Beginning patterns (u ++ (s ∷ []))
+-- where a look leads, and its output; from a miss nothing goes on
+abbrev pub behind : Look → Node
+behind Miss = record { leaf = true; base = 0 }
+behind (Hit link output) = linked link
 
-  -- The children's test, for a string that ends in a cell with this link or, with no symbols, at the root.
-  module _ (u own : List ℕ) (i : ℕ) (leaf : Bool) (base : ℕ) (stands : begins u own ≡ true) (block : Block patterns u i)
-      (same : (s : ℕ) → child cells leaf base s ≡ isHit (along cells root (u ++ (s ∷ [])))) where
-    abbrev same-child : ℕ → Bool
-    same-child s = Bool·beq (child cells leaf base s) (nextIn (length u) own (drop i patterns) s)
+abbrev pub outOf : Look → ℕ
+outOf Miss = 0
+outOf (Hit link output) = output
 
-    pub children-alike : childrenRight cells leaf base (length u) own (drop i patterns) ≡ true → Alike u
-    unfolding childrenRight
-    children-alike e s h k =
-        let q = beq-same _ _ (all-each same-child 1 symbols e s h (omega arith)) in
-        (λ t. next-beginning patterns u own i s stands block h (sym q ∙ same s ∙ t), λ b. sym (same s) ∙ q ∙ beginning-next patterns u own i s stands block b)
+module _ (cells : List ℕ) (root : ℕ) where
+  -- the node of a string
+  unfoldable pub nodeAt : List ℕ → Node
+  nodeAt [] = rootAt root
+  nodeAt (x ∷ u) = behind (along cells root (x ∷ u))
 
-    pub alike-children : Alike u → childrenRight cells leaf base (length u) own (drop i patterns) ≡ true
-    unfolding childrenRight
-    alike-children a =
-        each-all same-child 1 symbols
-        (λ s h k. same-beq _ _ (λ t. beginning-next patterns u own i s stands block (a s h (omega arith) .0 (sym (same s) ∙ t)))
-        (λ t. same s ∙ a s h (omega arith) .1 (next-beginning patterns u own i s stands block h t)))
+  pub node-behind : (u : List ℕ) → 0 < length u → nodeAt u ≡ behind (along cells root u)
+  unfolding nodeAt
+  node-behind [] h = absurd (omega arith)
+  node-behind (x ∷ u) h = refl
 
--- an output: exact for the pattern that u is, 0 if it is none
-pub record Told (patterns : List Pattern) (entries u : List ℕ) (output : ℕ) : Type 0 where
-  pub exact : (i : ℕ) → i < length patterns → nth patterns i .symbols ≡ u → Exact entries (nth patterns i) output
-  pub silent : ((i : ℕ) → i < length patterns → nth patterns i .symbols ≡ u → ⊥) → output ≡ 0
-
--- what is asked of a beginning
-pub record Node (patterns : List Pattern) (cells entries : List ℕ) (root : ℕ) (u : List ℕ) : Type 0 where
-  pub link : ℕ
-  pub output : ℕ
-  pub matches : along cells root u ≡ Hit link output
-  pub told : Told patterns entries u output
-  pub alike : length u < patternLimit → Alike patterns cells root u
-
--- The test at a new beginning that is reached.
-module _ (patterns : List Pattern) (cells entries : List ℕ) (root : ℕ) (sorted : Sorted patterns) (u : List ℕ) (i link output : ℕ)
-    (new : New patterns u i) (some : 0 < length u) (matches : along cells root u ≡ Hit link output) where
-  abbrev p : Pattern
-  p = nth patterns i
-
-  abbrev outputRight : Bool
-  outputRight = cond (isNil (drop (length u) (p .symbols))) (exactTest entries (p .levels) (length u) output) (eqb output 0)
-
-  abbrev further : Bool
-  further = leb patternLimit (length u) || childrenRight cells (eqb link 0) link (length u) (p .symbols) (drop i patterns)
-
-  -- the test at u, as the pattern that it is new in asks it
-  abbrev pub nodeTest : Bool
-  nodeTest = nodeRight cells entries p (drop i patterns) (length u) (isNil (drop (length u) (p .symbols))) link output
-
-  child-same : (s : ℕ) → child cells (eqb link 0) link s ≡ isHit (along cells root (u ++ (s ∷ [])))
-  unfolding child along onward
-  child-same s = rw (along-append cells root u s [] some, matches) (go (eqb link 0))
+  -- a string's node goes on as the string does
+  pub child-along : (u : List ℕ) (s : ℕ) → childAt cells (nodeAt u) s ≡ along cells root (u ++ (s ∷ []))
+  unfolding nodeAt childAt along onward
+  child-along [] s = refl
+  child-along (x ∷ u) s = rw (along-append cells root (x ∷ u) s [] (omega arith)) (go (along cells root (x ∷ u)))
     where
-      go : (z : Bool) → cond z false (isHit (look cells (link + s) s)) ≡ isHit (cond z Miss (look cells (link + s) s))
-      go true = refl
-      go false = refl
+      go : (found : Look) → childAt cells (behind found) s ≡ onward (λ link. along cells link (s ∷ [])) found
+      go Miss = refl
+      go (Hit link output) = refl
 
-  -- where the first pattern that has u is longer, none is u itself
-  other : isNil (drop (length u) (p .symbols)) ≡ false → (j : ℕ) → j < length patterns → nth patterns j .symbols ≡ u → ⊥
-  other w j h e =
-      let k : j ≡ i = whole-first patterns sorted u i j new h e in
-      never (sym w ∙ whole-nil u (p .symbols) (rw k at e))
+  -- behind a string the table goes on with no symbol between two others
+  abbrev pub None : List ℕ → ℕ → ℕ → Type 0
+  None u low high = (s : ℕ) → low < s → s < high → isHit (along cells root (u ++ (s ∷ []))) ≡ true → ⊥
 
-  output-told : outputRight ≡ true → Told patterns entries u output
-  output-told = go (isNil (drop (length u) (p .symbols))) refl
+  misses : List ℕ → ℕ → Bool
+  misses u s = not (isHit (childAt cells (nodeAt u) s))
+
+  pub none-each : (u : List ℕ) (low high : ℕ) → noneBetween cells (nodeAt u) low high ≡ true → None u low high
+  unfolding noneBetween misses
+  none-each u low high e s h k t =
+      never (sym (not-true _ (all-each (misses u) (suc low) (high - suc low) e s h (omega arith))) ∙ ap isHit (child-along u s) ∙ t)
+
+  pub each-none : (u : List ℕ) (low high : ℕ) → None u low high → noneBetween cells (nodeAt u) low high ≡ true
+  unfolding noneBetween misses
+  each-none u low high n = each-all (misses u) (suc low) (high - suc low) (λ s h k. rw (child-along u s) (go (isHit (along cells root (u ++ (s ∷ [])))) (n s h (omega arith))))
     where
-      go : (z : Bool) → isNil (drop (length u) (p .symbols)) ≡ z → cond z (exactTest entries (p .levels) (length u) output) (eqb output 0) ≡ true → Told patterns entries u output
-      go true w t =
-          let e : p .symbols ≡ u = begins-whole u (p .symbols) (new .stands) w in
-          let x = test-exact entries p output (rw e t) in
-          record {
-            exact = λ j h q. let k : j ≡ i = whole-first patterns sorted u i j new h q in rw k x;
-            silent = λ none. absurd (none i (new .within) e);
-          }
-      go false w t = record { exact = λ j h q. absurd (other w j h q); silent = λ none. eqb-true output 0 t }
+      go : (z : Bool) → (z ≡ true → ⊥) → not z ≡ true
+      go true f = absurd (f refl)
+      go false f = refl
 
-  told-output : Told patterns entries u output → outputRight ≡ true
-  told-output t = go (isNil (drop (length u) (p .symbols))) refl
-    where
-      go : (z : Bool) → isNil (drop (length u) (p .symbols)) ≡ z → cond z (exactTest entries (p .levels) (length u) output) (eqb output 0) ≡ true
-      go true w =
-          let e : p .symbols ≡ u = begins-whole u (p .symbols) (new .stands) w in
-          rw e at (exact-test entries p output (t .exact i (new .within) e))
-      go false w = eq-eqb output 0 (t .silent (other w))
+-- the symbol with which a list goes on behind a string, 0 where it has not the string or ends there
+abbrev pub nextOf : List ℕ → List ℕ → ℕ
+nextOf u a = cond (begins u a) (getD a (length u) 0) 0
 
-  pub node-told : nodeTest ≡ true → Told patterns entries u output
-  unfolding nodeRight
-  node-told e = output-told (both outputRight further e .0)
+-- The symbols that the list passes over behind a beginning u of a pattern: between those of the pattern above and its own, and over
+-- its own where the pattern below has not u. The test asks for them by what the patterns have in common.
+module _ (cells : List ℕ) (root : ℕ) (u above own below : List ℕ) where
+  pub record Passed : Type 0 where
+    pub under : None cells root u (nextOf u above) (getD own (length u) 0)
+    pub over : begins u below ≡ false → None cells root u (getD own (length u) 0) (suc symbols)
 
-  pub node-alike : nodeTest ≡ true → length u < patternLimit → Alike patterns cells root u
-  unfolding nodeRight
-  node-alike e h =
-      children-alike patterns cells root u (p .symbols) i (eqb link 0) link (new .stands) (block-new patterns sorted u i new) child-same
-      (rw (lt-leb patternLimit (length u) h) at (both outputRight further e .1))
+  abbrev low : ℕ
+  low = cond (eqb (length u) (common above own)) (getD above (common above own) 0) 0
 
-  pub told-node : Told patterns entries u output → (length u < patternLimit → Alike patterns cells root u)
-      → nodeTest ≡ true
-  unfolding nodeRight
-  told-node t a = rw (told-output t) (go (leb patternLimit (length u)) refl)
-    where
-      go : (z : Bool) → leb patternLimit (length u) ≡ z → (z || childrenRight cells (eqb link 0) link (length u) (p .symbols) (drop i patterns)) ≡ true
-      go true e = refl
-      go false e =
-          alike-children patterns cells root u (p .symbols) i (eqb link 0) link (new .stands) (block-new patterns sorted u i new) child-same (a (leb-false patternLimit (length u) e))
+  abbrev lowTest : Bool
+  lowTest = ltb (length u) (common above own) || noneBetween cells (nodeAt cells root u) low (getD own (length u) 0)
+
+  abbrev highTest : Bool
+  highTest = leb (length u) (common own below) || noneBetween cells (nodeAt cells root u) (getD own (length u) 0) (suc symbols)
+
+  module _ (stands : begins u own ≡ true) where
+    -- the test's lower bound is the symbol of the pattern above
+    low-next : common above own ≤ length u → low ≡ nextOf u above
+    low-next h = rw (begins-above u above own stands) (go (eqb (length u) (common above own)) refl)
+      where
+        go : (z : Bool) → eqb (length u) (common above own) ≡ z
+            → cond z (getD above (common above own) 0) 0 ≡ cond (leb (length u) (common above own)) (getD above (length u) 0) 0
+        go true e = let q = eqb-true (length u) (common above own) e in rw (le-leb (length u) (common above own) (omega arith), q)
+        go false e = let q = eqb-false (length u) (common above own) e in rw (lt-leb (length u) (common above own) (omega arith))
+
+    -- where the pattern above goes on alike, nothing is passed over
+    alike-next : length u < common above own → nextOf u above ≡ getD own (length u) 0
+    alike-next h = rw (begins-above u above own stands, le-leb (length u) (common above own) (omega arith)) (common-next above own (length u) h)
+
+    pub test-passed : passedOver cells (besides above own below) (nodeAt cells root u) (length u) (getD own (length u) 0) ≡ true → Passed
+    unfolding passedOver besides
+    test-passed t =
+        let p = both lowTest highTest t in
+        record { under = go (ltb (length u) (common above own)) refl (p .0); over = λ e. none-each cells root u _ _ (rw (sym (begins-shared u own below stands) ∙ e) at (p .1)) }
+      where
+        go : (z : Bool) → ltb (length u) (common above own) ≡ z → (z || noneBetween cells (nodeAt cells root u) low (getD own (length u) 0)) ≡ true
+            → None cells root u (nextOf u above) (getD own (length u) 0)
+        go true e t = λ s h k. absurd (omega (arith, alike-next (ltb-true (length u) (common above own) e)))
+        go false e t = rw (low-next (ltb-false (length u) (common above own) e)) at (none-each cells root u _ _ t)
+
+    pub passed-test : Passed → passedOver cells (besides above own below) (nodeAt cells root u) (length u) (getD own (length u) 0) ≡ true
+    unfolding passedOver besides
+    passed-test p = rw (under (ltb (length u) (common above own)) refl, ← begins-shared u own below stands) (over (begins u below) refl)
+      where
+        under : (z : Bool) → ltb (length u) (common above own) ≡ z → lowTest ≡ true
+        under true e = rw e
+        under false e = rw (e, low-next (ltb-false (length u) (common above own) e)) (each-none cells root u _ _ (p .under))
+
+        over : (z : Bool) → begins u below ≡ z → (z || noneBetween cells (nodeAt cells root u) (getD own (length u) 0) (suc symbols)) ≡ true
+        over true e = refl
+        over false e = each-none cells root u _ _ (p .over e)

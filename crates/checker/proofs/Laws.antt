@@ -1,42 +1,44 @@
 -- Laws about the checker's test: one for each way through the code.
 use Prim.Native.Nat.{ℕ, zero, suc, _+_, _-_, _≤_, _<_}
-use mathlib.Core.Bool.{Bool, true, false, cond, not, _&&_, _||_, Bool·beq}
-use mathlib.Core.List.{List, [], _∷_, map}
+use mathlib.Core.Bool.{Bool, true, false, cond, not, _&&_, _||_}
+use mathlib.Core.List.{List, [], map}
 use mathlib.Core.Path.{_≡_, refl, sym, _∙_, ap}
+use native.Mathlib.Decide.{decLt}
+use native.Mathlib.Numerals.{add-one}
 use native.Mathlib.Omega.{arith}
-use borrow.Author.Tests.{lt-leb, le-leb, lt-ltb, le-ltb, eq-eqb, ne-eqb, ltb-true, eqb-true, eqb-false, leb-true}
+use borrow.Author.Tests.{lt-leb, le-leb, lt-ltb, le-ltb, eq-eqb, ne-eqb, ltb-true, leb-true}
 use lib.Dec.{leb, ltb, eqb}
-use lib.ListN.{length, getD, take, drop, set, length-set, replicate, getD-replicate, drop-of-length-le, List·getD-eq-default}
-use lib.Seq.{getD-set-same, getD-set-other}
-use Rattle.base.specs.Limits.{symbols, patternLimit, levelLimit}
+use lib.ListN.{length, getD, take, drop, replicate, getD-replicate, drop-of-length-le, List·getD-eq-default}
+use lib.Seq.{take-nil}
+use Rattle.base.specs.Limits.{symbols, patternLimit, levelLimit, roomSize}
 use Rattle.base.specs.Grounds.{refuseIf}
 use Rattle.base.specs.declared.Check.the-variants.{Fine, Refused}
 use Rattle.base.specs.declared.Ground.the-variants.{NotRight}
 use Rattle.base.proofs.Lists.{cons-at, never}
-use Rattle.words.specs.Symbols.{small, digit, symbolsOf}
+use Rattle.words.specs.Symbols.{small, digit, symbolOf, symbolsOf}
 use Rattle.words.specs.Words.{inner}
-use Rattle.lines.specs.Lines.{cut, lineLength, isNil, anyOf, patternForm, goodPattern}
-use Rattle.lines.proofs.Laws.{cut-line, line-size, line-starts}
-use Rattle.lists.specs.Lists.{goodLine, firstBad}
+use Rattle.lines.specs.Lines.{cut, lineLength, anyOf, patternForm, goodPattern}
+use Rattle.lines.proofs.Laws.{cut-line, line-size, line-starts, line-ends, end-out}
+use Rattle.lists.specs.Lists.{goodLine, firstBad, judgeLines}
 use Rattle.lists.specs.declared.Form.the-variants.{Patterns}
 use Rattle.lists.specs.declared.Lines.the-variants.{Good}
 use Rattle.lists.proofs.Theorems.{Passed, passed}
-use Rattle.liang.specs.Patterns.{Pattern, levelsFrom, patternOf, patternsOf}
+use Rattle.liang.specs.Patterns.{levelsFrom, patternOf, patternsOf}
 use Rattle.patterns.specs.Common.{common}
-use Rattle.patterns.specs.Next.{nextMask}
-use Rattle.patterns.proofs.Next.{mask-says}
+use Rattle.patterns.specs.Post.{Parts}
+use Rattle.patterns.proofs.Laws.{rest-skip, rest-keep, rest-end, levels-digit, levels-symbol, levels-other, levels-end, line-levels, common-none}
 use Rattle.table.specs.declared.Look.{Look}
 use Rattle.table.specs.declared.Look.the-variants.{Hit, Miss}
 use Rattle.table.specs.Table.{cellKind, entryKind, cellSize, entrySize, cellCount, entryCount, cellsOf, entriesOf, entryAt, look}
 use Rattle.table.specs.declared.Entry.{Entry}
 use Rattle.table.specs.declared.Entry.the-variants.{Has, Stop}
-use Rattle.table.proofs.Laws.{entry-none}
 use Rattle.walk.specs.Chain.{chain}
 use Rattle.walk.specs.Raise.{highestSet, raiseAll}
 use Rattle.walk.proofs.Raised.{raised-at, chain-moved}
-use Rattle.right.proofs.All.{all-same}
 use Rattle.right.specs.Right.{soundStep, soundFrom, sound}
-use Rattle.right.specs.Test.{allFrom, kindsFrom, child, childrenRight, exactTest, nodeRight, followStep, follow, patternsRight, rightTest}
+use Rattle.right.specs.Test.{allFrom, kindsFrom, exactTest, Node, linked, rootAt, childAt, isHit, noneBetween, Beside, passedOver, followStep, follow, firstSymbols, besides, patternsRight, rightTest}
+use Rattle.right.proofs.All.{all-same, each-all}
+use Rattle.checker.specs.Post.{sameLevels}
 
 -- the kinds of records
 module _ (size kind : ℕ) (bytes : List ℕ) (at n count : ℕ) where
@@ -117,138 +119,189 @@ module _ (entries : List ℕ) (m k : ℕ) (z : k ≡ 0 → ⊥) {e : Entry} (p :
     unfolding soundStep
     sound-on h i f b r = r ∙ sym (sound-turn entries m k z ∙ rw (← p, q, le-leb 1 l h, le-leb l levelLimit i, le-leb d m f, lt-ltb next k b))
 
+-- a line's levels, one after the other
+and-true : (b : Bool) → (b && true) ≡ b
+and-true true = refl
+and-true false = refl
+
+same-all : (room levels : List ℕ) (k n : ℕ) → length levels ≡ k + n → sameLevels room k (drop k levels) ≡ allFrom (λ gap. eqb (getD room (gap + 1) 0) (getD levels gap 0)) k n
+unfolding sameLevels allFrom
+same-all room levels k zero e = let h : length levels ≤ k = omega arith in rw (drop-of-length-le levels h)
+same-all room levels k (suc n) e =
+    let h : k < length levels = omega arith in
+    rw (cons-at levels k h) (ap (λ (r : Bool). eqb (getD room (k + 1) 0) (getD levels k 0) && r) (rw add-one (same-all room levels (suc k) n (omega arith))))
+
+module _ (room line : List ℕ) (gap level i : ℕ) where
+  pub same-last : length line ≤ i → sameLevels room gap (levelsFrom level (drop i line)) ≡ eqb (getD room (gap + 1) 0) level
+  unfolding sameLevels
+  same-last h = rw (levels-end line i level h) (and-true (eqb (getD room (gap + 1) 0) level))
+
+  module _ (h : i < length line) where
+    pub same-digit : digit (getD line i 0) ≡ true → {v : ℕ} → v ≡ getD line i 0 - 48 → sameLevels room gap (levelsFrom level (drop i line)) ≡ sameLevels room gap (levelsFrom v (drop (i + 1) line))
+    same-digit d e = rw (levels-digit line i level h d, e)
+
+    module _ (d : digit (getD line i 0) ≡ false) {s : ℕ} (p : s ≡ symbolOf (getD line i 0)) where
+      pub same-other : s ≡ 0 → sameLevels room gap (levelsFrom level (drop i line)) ≡ sameLevels room gap (levelsFrom level (drop (i + 1) line))
+      same-other e = rw (levels-other line i level h d p e)
+
+      module _ (e : s ≡ 0 → ⊥) where
+        pub same-differs : (getD room (gap + 1) 0 ≡ level → ⊥) → sameLevels room gap (levelsFrom level (drop i line)) ≡ false
+        unfolding sameLevels
+        same-differs n = rw (levels-symbol line i level h d p e, ne-eqb (getD room (gap + 1) 0) level n)
+
+        pub same-agrees : getD room (gap + 1) 0 ≡ level → sameLevels room gap (levelsFrom level (drop i line)) ≡ sameLevels room (gap + 1) (levelsFrom 0 (drop (i + 1) line))
+        unfolding sameLevels
+        same-agrees n = rw (levels-symbol line i level h d p e, eq-eqb (getD room (gap + 1) 0) level n)
+
 -- an output's levels, as a room has them
-module _ (entries levels : List ℕ) (m output : ℕ) (short : m ≤ 16) where
-  level-byte : (gap : ℕ) → gap < suc m → getD (raiseAll (m + 2) (chain entries m (m + 2) output) (replicate 18 0)) (gap + 1) 0 ≡ highestSet (chain entries m m output) gap
+module _ (entries line : List ℕ) (m output : ℕ) (size : m ≡ length (symbolsOf line)) (short : m ≤ patternLimit) where
+  level-byte : (gap : ℕ) → gap < suc m → getD (raiseAll (m + 2) (chain entries m (m + 2) output) (replicate roomSize 0)) (gap + 1) 0 ≡ highestSet (chain entries m m output) gap
   unfolding inner
   level-byte gap h =
       let e : suc (gap + 1) ≡ gap + 2 = omega arith in
-      raised-at (m + 2) (chain entries m (m + 2) output) (replicate 18 0) (gap + 1) (omega arith)
-      ∙ rw (getD-replicate {A = ℕ} 18 (gap + 1) 0 0 (omega arith), le-leb 1 (gap + 1) (omega arith), lt-ltb (gap + 1) (m + 2) (omega arith), e, chain-moved entries m m 2 gap (omega arith) output) (omega arith)
+      raised-at (m + 2) (chain entries m (m + 2) output) (replicate roomSize 0) (gap + 1) (omega arith)
+      ∙ rw (getD-replicate {A = ℕ} roomSize (gap + 1) 0 0 (omega arith), le-leb 1 (gap + 1) (omega arith), lt-ltb (gap + 1) (m + 2) (omega arith), e, chain-moved entries m m 2 gap (omega arith) output) (omega arith)
 
-  pub exact-levels : {room : List ℕ} {r : Bool} → room ≡ raiseAll (m + 2) (chain entries m (m + 2) output) (replicate 18 0)
-      → r ≡ allFrom (λ gap. eqb (getD room (gap + 1) 0) (getD levels gap 0)) 0 (suc m) → sound entries m output ≡ true → r ≡ exactTest entries levels m output
+  pub exact-levels : {room : List ℕ} {r : Bool} → room ≡ raiseAll (m + 2) (chain entries m (m + 2) output) (replicate roomSize 0)
+      → r ≡ sameLevels room 0 (levelsFrom 0 line) → sound entries m output ≡ true → r ≡ exactTest entries (levelsFrom 0 line) m output
   unfolding exactTest
   exact-levels {room} p q s =
       q
-      ∙ all-same _ _ 0 (suc m) (λ gap a b. ap (λ (n : ℕ). eqb n (getD levels gap 0)) (ap (λ (l : List ℕ). getD l (gap + 1) 0) p ∙ level-byte gap (omega (arith, b))))
+      ∙ same-all room (levelsFrom 0 line) 0 (suc m) (omega (arith, line-levels 0 line, size))
+      ∙ all-same _ _ 0 (suc m) (λ gap a b. ap (λ (n : ℕ). eqb n (getD (levelsFrom 0 line) gap 0)) (ap (λ (l : List ℕ). getD l (gap + 1) 0) p ∙ level-byte gap (omega (arith, b))))
       ∙ rw s
 
-  pub exact-faulty : sound entries m output ≡ false → false ≡ exactTest entries levels m output
+  pub exact-faulty : sound entries m output ≡ false → false ≡ exactTest entries (levelsFrom 0 line) m output
   unfolding exactTest
   exact-faulty s = rw s
 
 pub kinds-start : (size kind : ℕ) (bytes : List ℕ) (count : ℕ) → kindsFrom size kind bytes 0 count ≡ kindsFrom size kind bytes 0 (count - 0)
 kinds-start size kind bytes count = let e : count - 0 ≡ count = omega arith in rw e
 
--- how the table goes on
+-- how the table goes on from a node
 module _ (cells : List ℕ) (leaf : Bool) (base s : ℕ) where
-  pub child-leaf : leaf ≡ true → false ≡ child cells leaf base s
-  unfolding child
+  pub child-leaf : leaf ≡ true → Miss ≡ childAt cells (record { leaf = leaf; base = base }) s
+  unfolding childAt
   child-leaf e = rw e
 
-  pub child-hit : {l : Look} {link output : ℕ} → leaf ≡ false → l ≡ look cells (base + s) s → l ≡ Hit link output → true ≡ child cells leaf base s
-  unfolding child
-  child-hit e p q = rw (e, ← p, q)
+  pub child-look : leaf ≡ false → {l : Look} → l ≡ look cells (base + s) s → l ≡ childAt cells (record { leaf = leaf; base = base }) s
+  unfolding childAt
+  child-look e p = rw e p
 
-  pub child-miss : {l : Look} → leaf ≡ false → l ≡ look cells (base + s) s → l ≡ Miss → false ≡ child cells leaf base s
-  unfolding child
-  child-miss e p q = rw (e, ← p, q)
+module _ (cells : List ℕ) (leaf : Bool) (base : ℕ) where
+  abbrev pub free : ℕ → Bool
+  free s = not (isHit (childAt cells (record { leaf = leaf; base = base }) s))
 
-pub agree-first : (a b : Bool) → a ≡ true → b ≡ Bool·beq a b
-agree-first true true e = refl
-agree-first true false e = refl
-agree-first false b e = never e
+  pub none-leaf : (low high : ℕ) → leaf ≡ true → true ≡ noneBetween cells (record { leaf = leaf; base = base }) low high
+  unfolding noneBetween
+  none-leaf low high e = sym (each-all free (suc low) (high - suc low) (λ s a b. ap (λ (l : Look). not (isHit l)) (sym (child-leaf cells leaf base s e))))
 
-pub agree-not : (a b : Bool) → a ≡ false → not b ≡ Bool·beq a b
-agree-not true b e = never (sym e)
-agree-not false true e = refl
-agree-not false false e = refl
+  pub none-start : (low high : ℕ) → noneBetween cells (record { leaf = leaf; base = base }) low high ≡ allFrom free (low + 1) (high - (low + 1))
+  unfolding noneBetween
+  none-start low high = rw add-one
 
-pub child-agrees : (cells : List ℕ) (leaf : Bool) (base s : ℕ) (wanted : Bool) {found r : Bool} → found ≡ child cells leaf base s → r ≡ Bool·beq found wanted
-    → r ≡ Bool·beq (child cells leaf base s) wanted
-child-agrees cells leaf base s wanted p q = q ∙ ap (λ (b : Bool). Bool·beq b wanted) p
+  module _ (e : leaf ≡ false) (s : ℕ) {l : Look} (p : l ≡ look cells (base + s) s) where
+    pub free-hit : {link output : ℕ} → l ≡ Hit link output → free s ≡ false
+    free-hit q = ap (λ (k : Look). not (isHit k)) (sym (child-look cells leaf base s e p) ∙ q)
 
-pub children-masked : (cells : List ℕ) (leaf : Bool) (base m : ℕ) (own : List ℕ) (ps : List Pattern) (mask : List ℕ) {r : Bool} → mask ≡ nextMask m own ps (replicate 28 0)
-    → r ≡ allFrom (λ s. Bool·beq (child cells leaf base s) (eqb (getD mask s 0) 1)) 1 symbols → r ≡ childrenRight cells leaf base m own ps
-unfolding childrenRight
-children-masked cells leaf base m own ps mask p q = q ∙ all-same _ _ 1 symbols (λ s a b. ap (Bool·beq (child cells leaf base s)) (mask-says m own ps p s (omega (arith, b))))
+    pub free-miss : l ≡ Miss → free s ≡ true
+    free-miss q = ap (λ (k : Look). not (isHit k)) (sym (child-look cells leaf base s e p) ∙ q)
 
--- one beginning of a line
-module _ (cells entries own : List ℕ) (ps : List Pattern) (m : ℕ) (whole : Bool) (link output : ℕ) {a : Bool} (p : a ≡ cond whole (exactTest entries (levelsFrom 0 own) m output) (eqb output 0)) where
-  pub node-output : a ≡ false → false ≡ nodeRight cells entries (patternOf own) ps m whole link output
-  unfolding nodeRight patternOf
-  node-output q = rw (← p, q)
+-- the symbols that the list passes over
+module _ (cells : List ℕ) (beside : Beside) (node : Node) (m s : ℕ)
+    {a : Bool} (p : a ≡ (ltb m (beside .known) || noneBetween cells node (cond (eqb m (beside .known)) (beside .low) 0) s)) where
+  pub over-below : a ≡ false → false ≡ passedOver cells beside node m s
+  unfolding passedOver
+  over-below e = rw (← p, e)
 
-  pub node-longest : a ≡ true → patternLimit ≤ m → true ≡ nodeRight cells entries (patternOf own) ps m whole link output
-  unfolding nodeRight patternOf
-  node-longest q h = rw (← p, q, le-leb patternLimit m h)
+  pub over-above : a ≡ true → {r : Bool} → r ≡ (leb m (beside .kept) || noneBetween cells node s (suc symbols)) → r ≡ passedOver cells beside node m s
+  unfolding passedOver
+  over-above e q = rw (← p, e) q
 
-  pub node-continued : {r : Bool} → a ≡ true → m < patternLimit → r ≡ childrenRight cells (eqb link 0) link m (symbolsOf own) ps → r ≡ nodeRight cells entries (patternOf own) ps m whole link output
-  unfolding nodeRight patternOf
-  node-continued q h c = c ∙ rw (← p, q, lt-leb patternLimit m h)
-
-pub known-or : (m known : ℕ) (b : Bool) → m ≤ known → true ≡ (leb m known || b)
-known-or m known b h = rw (le-leb m known h)
-
-pub new-or : (m known : ℕ) (b : Bool) → known < m → b ≡ (leb m known || b)
-new-or m known b h = rw (lt-leb m known h)
-
--- the line followed symbol by symbol
-pub nil-short : (l : List ℕ) (m : ℕ) → m < length l → isNil (drop m l) ≡ false
-unfolding isNil
-nil-short l m h = rw (cons-at l m h)
-
-pub nil-end : (l : List ℕ) (m : ℕ) → length l ≤ m → isNil (drop m l) ≡ true
-unfolding isNil
-nil-end l m h = rw (drop-of-length-le l h)
-
--- whether the symbol in hand is a line's last, as the code and the definition ask it
-pub whole-is : (l : List ℕ) (m : ℕ) → m ≤ length l → eqb m (length l) ≡ isNil (drop m l)
-whole-is l m h = go (eqb m (length l)) refl
-  where
-    go : (z : Bool) → eqb m (length l) ≡ z → z ≡ isNil (drop m l)
-    go true e = sym (nil-end l m (omega (arith, eqb-true m (length l) e)))
-    go false e = sym (nil-short l m (omega (arith, h, eqb-false m (length l) e)))
-
-module _ (cells entries own : List ℕ) (ps : List Pattern) (known base m : ℕ) (h : m < length (symbolsOf own)) {s : ℕ} (p : s ≡ getD (symbolsOf own) m 0) {found : Look} (q : found ≡ look cells (base + s) s) where
-  follow-turn : follow cells entries (patternOf own) ps known base m (drop m (symbolsOf own))
-      ≡ followStep (λ link. follow cells entries (patternOf own) ps known link (m + 1) (drop (m + 1) (symbolsOf own))) cells entries (patternOf own) ps known (m + 1) (drop (m + 1) (symbolsOf own)) found
+-- one pattern line, followed symbol by symbol
+module _ (cells entries levels : List ℕ) (beside : Beside) (node : Node) (output m : ℕ) where
+  pub follow-inexact : {a : Bool} → a ≡ exactTest entries levels m output → a ≡ false → false ≡ follow cells entries levels beside node output m []
   unfolding follow
-  follow-turn = rw (cons-at (symbolsOf own) m h, ← p, ← q)
+  follow-inexact p e = rw (← p, e)
 
-  pub follow-miss : found ≡ Miss → follow cells entries (patternOf own) ps known base m (drop m (symbolsOf own)) ≡ false
-  unfolding followStep
-  follow-miss e = follow-turn ∙ rw e
+  pub follow-longest : {a : Bool} → a ≡ exactTest entries levels m output → a ≡ true → patternLimit ≤ m → true ≡ follow cells entries levels beside node output m []
+  unfolding follow
+  follow-longest p e h = rw (← p, e, le-leb patternLimit m h)
 
-  module _ {link output : ℕ} (e : found ≡ Hit link output) {r : Bool}
-      (n : r ≡ (leb (m + 1) known || nodeRight cells entries (patternOf own) ps (m + 1) (isNil (drop (m + 1) (symbolsOf own))) link output)) where
-    pub follow-wrong : r ≡ false → follow cells entries (patternOf own) ps known base m (drop m (symbolsOf own)) ≡ false
-    unfolding followStep
-    follow-wrong z = follow-turn ∙ rw (e, ← n, z)
+  pub follow-last : {a r : Bool} → a ≡ exactTest entries levels m output → a ≡ true → m < patternLimit → r ≡ passedOver cells beside node m 0
+      → r ≡ follow cells entries levels beside node output m []
+  unfolding follow
+  follow-last p e h q = rw (← p, e, lt-leb patternLimit m h) q
 
-    pub follow-whole : r ≡ true → length (symbolsOf own) ≤ m + 1 → follow cells entries (patternOf own) ps known base m (drop m (symbolsOf own)) ≡ true
-    unfolding followStep
-    follow-whole z l = follow-turn ∙ rw (e, ← n, z, nil-end (symbolsOf own) (m + 1) l)
+  module _ (own : List ℕ) (i : ℕ) where
+    -- the symbols that are left, from a place of the line on
+    abbrev pub left : Bool
+    left = follow cells entries levels beside node output m (symbolsOf (drop i own))
 
-    pub follow-leaf : r ≡ true → m + 1 < length (symbolsOf own) → link ≡ 0 → follow cells entries (patternOf own) ps known base m (drop m (symbolsOf own)) ≡ false
-    unfolding followStep
-    follow-leaf z l y = follow-turn ∙ rw (e, ← n, z, nil-short (symbolsOf own) (m + 1) l, eq-eqb link 0 y)
+    pub follow-end : length own ≤ i → {r : Bool} → r ≡ follow cells entries levels beside node output m [] → r ≡ left
+    follow-end h q = rw (rest-end own i h) q
 
-    pub follow-on : r ≡ true → m + 1 < length (symbolsOf own) → (link ≡ 0 → ⊥)
-        → follow cells entries (patternOf own) ps known base m (drop m (symbolsOf own)) ≡ follow cells entries (patternOf own) ps known link (m + 1) (drop (m + 1) (symbolsOf own))
-    unfolding followStep
-    follow-on z l y = follow-turn ∙ rw (e, ← n, z, nil-short (symbolsOf own) (m + 1) l, ne-eqb link 0 y)
+    module _ (h : i < length own) {s : ℕ} (p : s ≡ symbolOf (getD own i 0)) where
+      pub follow-skip : s ≡ 0 → left ≡ follow cells entries levels beside node output m (symbolsOf (drop (i + 1) own))
+      follow-skip e = rw (rest-skip own i h p e)
 
-pub follow-end : (cells entries own : List ℕ) (ps : List Pattern) (known base m : ℕ) → length (symbolsOf own) ≤ m → follow cells entries (patternOf own) ps known base m (drop m (symbolsOf own)) ≡ true
-unfolding follow
-follow-end cells entries own ps known base m h = rw (drop-of-length-le (symbolsOf own) h)
+      module _ (e : s ≡ 0 → ⊥) where
+        follow-turn : left
+            ≡ ((leb m (beside .known) || eqb output 0)
+            && (passedOver cells beside node m s
+            && followStep (λ link out. follow cells entries levels beside (linked link) out (m + 1) (symbolsOf (drop (i + 1) own))) (childAt cells node s)))
+        unfolding follow
+        follow-turn = rw (rest-keep own i h p e)
 
-pub node-whole : (cells entries own : List ℕ) (ps : List Pattern) (known m link output : ℕ) {n : ℕ} {r : Bool} → n ≡ length (symbolsOf own) → m ≤ n
-    → r ≡ (leb m known || nodeRight cells entries (patternOf own) ps m (eqb m n) link output)
-    → r ≡ (leb m known || nodeRight cells entries (patternOf own) ps m (isNil (drop m (symbolsOf own))) link output)
-node-whole cells entries own ps known m link output {n} c h e =
-    e ∙ ap (λ (w : Bool). leb m known || nodeRight cells entries (patternOf own) ps m w link output) (ap (eqb m) c ∙ whole-is (symbolsOf own) m (omega (arith, c, h)))
+        module _ {a : Bool} (x : a ≡ (leb m (beside .known) || eqb output 0)) where
+          pub follow-loud : a ≡ false → left ≡ false
+          follow-loud z = follow-turn ∙ rw (← x, z)
+
+          module _ (y : a ≡ true) {b : Bool} (w : b ≡ passedOver cells beside node m s) where
+            pub follow-crossed : b ≡ false → left ≡ false
+            follow-crossed z = follow-turn ∙ rw (← x, y, ← w, z)
+
+            module _ (v : b ≡ true) {found : Look} (q : found ≡ childAt cells node s) where
+              pub follow-miss : found ≡ Miss → left ≡ false
+              unfolding followStep
+              follow-miss z = follow-turn ∙ rw (← x, y, ← w, v, ← q, z)
+
+              pub follow-on : {link out : ℕ} → found ≡ Hit link out → left ≡ follow cells entries levels beside (linked link) out (m + 1) (symbolsOf (drop (i + 1) own))
+              unfolding followStep
+              follow-on z = follow-turn ∙ rw (← x, y, ← w, v, ← q, z)
+
+-- What holds between two symbols of a line: how many are followed, and that the rest decides.
+pub record Following (cells entries : List ℕ) (root : ℕ) (own : List ℕ) (beside : Beside) (node : Node) (output m i : ℕ) : Type 0 where
+  pub short : length (symbolsOf own) ≤ patternLimit
+  pub counted : m + length (symbolsOf (drop i own)) ≡ length (symbolsOf own)
+  pub same : follow cells entries (levelsFrom 0 own) beside (rootAt root) 0 0 (symbolsOf own)
+      ≡ follow cells entries (levelsFrom 0 own) beside node output m (symbolsOf (drop i own))
+
+pub following-start : (cells entries : List ℕ) (root : ℕ) (own : List ℕ) (beside : Beside) → length (symbolsOf own) ≤ patternLimit
+    → Following cells entries root own beside (rootAt root) 0 0 0
+following-start cells entries root own beside h = record { short = h; counted = omega arith; same = refl }
+
+module _ (cells entries : List ℕ) (root : ℕ) (own : List ℕ) (beside : Beside) (node : Node) (output m i : ℕ) (f : Following cells entries root own beside node output m i) where
+  pub following-end : length own ≤ i → m ≡ length (symbolsOf own)
+  following-end h = omega (arith, f .counted, ap length (rest-end own i h))
+
+  module _ (h : i < length own) {s : ℕ} (p : s ≡ symbolOf (getD own i 0)) where
+    pub following-skip : s ≡ 0 → Following cells entries root own beside node output m (i + 1)
+    following-skip e =
+        record {
+          short = f .short;
+          counted = omega (arith, f .counted, ap length (rest-skip own i h p e));
+          same = f .same ∙ follow-skip cells entries (levelsFrom 0 own) beside node output m own i h p e;
+        }
+
+    module _ (e : s ≡ 0 → ⊥) where
+      pub following-few : m < patternLimit
+      following-few = omega (arith, f .counted, f .short, ap length (rest-keep own i h p e))
+
+      pub following-on : {link out : ℕ} → follow cells entries (levelsFrom 0 own) beside node output m (symbolsOf (drop i own))
+          ≡ follow cells entries (levelsFrom 0 own) beside (linked link) out (m + 1) (symbolsOf (drop (i + 1) own))
+          → Following cells entries root own beside (linked link) out (m + 1) (i + 1)
+      following-on t = record { short = f .short; counted = omega (arith, f .counted, ap length (rest-keep own i h p e)); same = f .same ∙ t }
 
 -- a good line has at most 16 symbols
 good-short : (l : List ℕ) → goodLine Patterns l ≡ true → length (symbolsOf l) ≤ patternLimit
@@ -266,46 +319,80 @@ module _ (w : List ℕ) (at e : ℕ) (above : List ℕ) (h : at < length w) (q :
   passes : Passed Patterns at above (take (e - at) (drop at w)) (cut (drop e w))
   passes = passed Patterns at above (take (e - at) (drop at w)) (cut (drop e w)) (ap (firstBad Patterns at above) (sym (cut-line w at e h q)) ∙ g)
 
-  pub line-short : length (symbolsOf (take (e - at) (drop at w))) ≤ patternLimit
-  line-short = good-short (take (e - at) (drop at w)) (passes .good)
-
-  pub lines-good : firstBad Patterns e (take (e - at) (drop at w)) (cut (drop e w)) ≡ Good
+  lines-good : firstBad Patterns e (take (e - at) (drop at w)) (cut (drop e w)) ≡ Good
   lines-good =
       let s : at + length (take (e - at) (drop at w)) ≡ e = omega (arith, line-size w at e h q, line-starts w at e h q) in
       ap (λ (k : ℕ). firstBad Patterns k (take (e - at) (drop at w)) (cut (drop e w))) (sym s) ∙ passes .onward
 
-module _ (cells entries : List ℕ) (root : ℕ) (w : List ℕ) (at e : ℕ) (above : List ℕ) (h : at < length w) (q : e ≡ at + lineLength (drop at w))
-    {known : ℕ} (k : known ≡ common (symbolsOf above) (symbolsOf (take (e - at) (drop at w)))) {r : Bool}
-    (f : r ≡ follow cells entries (patternOf (take (e - at) (drop at w))) (map patternOf (cut (drop at w))) known root 0 (symbolsOf (take (e - at) (drop at w)))) where
-  lines-turn : patternsRight cells entries root (symbolsOf above) (map patternOf (cut (drop at w)))
-      ≡ (r && patternsRight cells entries root (symbolsOf (take (e - at) (drop at w))) (map patternOf (cut (drop e w))))
-  unfolding patternsRight patternOf
-  lines-turn =
-      ap (λ (l : List (List ℕ)). patternsRight cells entries root (symbolsOf above) (map patternOf l)) (cut-line w at e h q)
-      ∙ ap (λ (b : Bool). b && patternsRight cells entries root (symbolsOf (take (e - at) (drop at w))) (map patternOf (cut (drop e w)))) (sym followed)
-    where
-      followed : r ≡ follow cells entries (patternOf (take (e - at) (drop at w))) (map patternOf (take (e - at) (drop at w) ∷ cut (drop e w)))
-          (common (symbolsOf above) (symbolsOf (take (e - at) (drop at w)))) root 0 (symbolsOf (take (e - at) (drop at w)))
-      followed =
-          f
-          ∙ ap (λ (l : List (List ℕ)). follow cells entries (patternOf (take (e - at) (drop at w))) (map patternOf l) known root 0 (symbolsOf (take (e - at) (drop at w)))) (cut-line w at e h q)
-          ∙ ap (λ (n : ℕ). follow cells entries (patternOf (take (e - at) (drop at w))) (map patternOf (take (e - at) (drop at w) ∷ cut (drop e w))) n root 0 (symbolsOf (take (e - at) (drop at w)))) k
+-- a line's end lies in the text
+pub line-in : (w : List ℕ) (i e : ℕ) → i ≤ length w → e ≡ i + lineLength (drop i w) → (i ≤ e) × (e ≤ length w)
+line-in w i e h q = go (decLt i (length w))
+  where
+    go : Dec (i < length w) → (i ≤ e) × (e ≤ length w)
+    go (yes k) = (omega arith, line-ends w i e k q)
+    go (no k) = let n : i ≡ length w = omega arith in (omega arith, omega (arith, sym (end-out i w i refl (omega arith)), q))
 
-  pub lines-wrong : r ≡ false → patternsRight cells entries root (symbolsOf above) (map patternOf (cut (drop at w))) ≡ false
-  lines-wrong z = lines-turn ∙ rw z
+-- the first of the patterns from a place on
+first-symbols : (w : List ℕ) (i e : ℕ) → e ≡ i + lineLength (drop i w) → firstSymbols (map patternOf (cut (drop i w))) ≡ symbolsOf (take (e - i) (drop i w))
+unfolding patternOf cut symbolsOf
+first-symbols w i e q = go (decLt i (length w))
+  where
+    go : Dec (i < length w) → firstSymbols (map patternOf (cut (drop i w))) ≡ symbolsOf (take (e - i) (drop i w))
+    go (yes k) = rw (cut-line w i e k q)
+    go (no k) = let h : length w ≤ i = omega arith in rw (drop-of-length-le w h, take-nil {A = ℕ} (e - i))
 
-  pub lines-on : r ≡ true → patternsRight cells entries root (symbolsOf above) (map patternOf (cut (drop at w)))
-      ≡ patternsRight cells entries root (symbolsOf (take (e - at) (drop at w))) (map patternOf (cut (drop e w)))
-  lines-on z = lines-turn ∙ rw z
+-- What holds between two lines of a good text: what the line at hand shares with the one above it, and what is left to test.
+pub record Lined (cells entries : List ℕ) (root : ℕ) (w : List ℕ) (known low at end : ℕ) : Type 0 where
+  pub above : List ℕ
+  pub within : at ≤ length w
+  pub ends : end ≡ at + lineLength (drop at w)
+  pub good : firstBad Patterns at above (cut (drop at w)) ≡ Good
+  pub shares : known ≡ common (symbolsOf above) (symbolsOf (take (end - at) (drop at w)))
+  pub follows : low ≡ getD (symbolsOf above) (common (symbolsOf above) (symbolsOf (take (end - at) (drop at w)))) 0
+  pub same : patternsRight cells entries root [] (patternsOf w) ≡ patternsRight cells entries root (symbolsOf above) (map patternOf (cut (drop at w)))
 
-pub lines-begin : (cells entries : List ℕ) (root : ℕ) (w : List ℕ)
-    → patternsRight cells entries root [] (patternsOf w) ≡ patternsRight cells entries root (symbolsOf (take (0 - 0) (drop 0 w))) (map patternOf (cut (drop 0 w)))
-unfolding patternsOf symbolsOf
-lines-begin cells entries root w = refl
+module _ (cells entries : List ℕ) (root : ℕ) (w : List ℕ) where
+  pub lined-start : (end : ℕ) → judgeLines Patterns w ≡ Good → end ≡ 0 + lineLength (drop 0 w) → Lined cells entries root w 0 0 0 end
+  unfolding judgeLines patternsOf symbolsOf common
+  lined-start end g q = record { above = []; within = omega arith; ends = q; good = g; shares = refl; follows = refl; same = refl }
 
-pub lines-done : (cells entries : List ℕ) (root : ℕ) (w : List ℕ) (at : ℕ) (above : List ℕ) → length w ≤ at → patternsRight cells entries root above (map patternOf (cut (drop at w))) ≡ true
-unfolding patternsRight cut
-lines-done cells entries root w at above h = rw (drop-of-length-le w h)
+  module _ (known low at end : ℕ) (l : Lined cells entries root w known low at end) where
+    pub lined-done : length w ≤ at → {r : Bool} → r ≡ noneBetween cells (rootAt root) low (suc symbols) → r ≡ patternsRight cells entries root [] (patternsOf w)
+    lined-done h q = q ∙ sym (l .same ∙ last)
+      where
+        none : common (symbolsOf (l .above)) (symbolsOf (take (end - at) (drop at w))) ≡ 0
+        none = unfold symbolsOf in rw (drop-of-length-le w h, take-nil {A = ℕ} (end - at)) (common-none (symbolsOf (l .above)))
+
+        last : patternsRight cells entries root (symbolsOf (l .above)) (map patternOf (cut (drop at w))) ≡ noneBetween cells (rootAt root) low (suc symbols)
+        last = unfold patternsRight cut in rw (drop-of-length-le w h, l .follows, none)
+
+    module _ (h : at < length w) where
+      pub line-short : length (symbolsOf (take (end - at) (drop at w))) ≤ patternLimit
+      line-short = good-short (take (end - at) (drop at w)) (passes w at end (l .above) h (l .ends) (l .good) .good)
+
+      module _ (next : ℕ) (q : next ≡ end + lineLength (drop end w)) {kept symbol : ℕ} (p : Parts (symbolsOf (take (end - at) (drop at w))) (symbolsOf (take (next - end) (drop end w))) kept symbol)
+          {r : Bool} (f : r ≡ follow cells entries (levelsFrom 0 (take (end - at) (drop at w))) (record { known = known; low = low; kept = kept }) (rootAt root) 0 0 (symbolsOf (take (end - at) (drop at w)))) where
+        turn : patternsRight cells entries root [] (patternsOf w) ≡ (r && patternsRight cells entries root (symbolsOf (take (end - at) (drop at w))) (map patternOf (cut (drop end w))))
+        unfolding patternsRight patternOf besides
+        turn =
+            l .same
+            ∙ ap (λ (ls : List (List ℕ)). patternsRight cells entries root (symbolsOf (l .above)) (map patternOf ls)) (cut-line w at end h (l .ends))
+            ∙ rw (first-symbols w end next q, ← l .follows, ← l .shares, ← p .count, ← f)
+
+        pub lined-wrong : r ≡ false → patternsRight cells entries root [] (patternsOf w) ≡ false
+        lined-wrong z = turn ∙ rw z
+
+        pub lined-on : r ≡ true → Lined cells entries root w kept symbol end next
+        lined-on z =
+            record {
+              above = take (end - at) (drop at w);
+              within = line-in w at end (l .within) (l .ends) .1;
+              ends = q;
+              good = lines-good w at end (l .above) h (l .ends) (l .good);
+              shares = p .count;
+              follows = p .next;
+              same = turn ∙ rw z;
+            }
 
 -- the whole test, in the order in which the code asks
 module _ (text table : List ℕ) (root : ℕ) {cells entries : List ℕ} {c e : ℕ} (p : cells ≡ cellsOf table) (q : entries ≡ entriesOf table) (n : c ≡ cellCount table) (k : e ≡ entryCount table)
@@ -319,15 +406,10 @@ module _ (text table : List ℕ) (root : ℕ) {cells entries : List ℕ} {c e : 
     unfolding rightTest
     right-entries w = rw (← p, ← n, ← x, z, ← q, ← k, ← y, w)
 
-    module _ (w : b ≡ true) {d : Bool} (v : d ≡ childrenRight cells false root 0 (symbolsOf []) (map patternOf (cut text))) where
-      pub right-root : d ≡ false → false ≡ rightTest (patternsOf text) (cellsOf table) (entriesOf table) root (cellCount table) (entryCount table)
-      unfolding rightTest patternsOf symbolsOf
-      right-root u = rw (← p, ← n, ← x, z, ← q, ← k, ← y, w, ← v, u)
-
-      pub right-lines : d ≡ true → {r : Bool} → r ≡ patternsRight cells entries root [] (patternsOf text)
-          → r ≡ rightTest (patternsOf text) (cellsOf table) (entriesOf table) root (cellCount table) (entryCount table)
-      unfolding rightTest patternsOf symbolsOf
-      right-lines u s = s ∙ rw (← p, ← n, ← x, z, ← q, ← k, ← y, w, ← v, u)
+    pub right-lines : b ≡ true → {r : Bool} → r ≡ patternsRight cells entries root [] (patternsOf text)
+        → r ≡ rightTest (patternsOf text) (cellsOf table) (entriesOf table) root (cellCount table) (entryCount table)
+    unfolding rightTest
+    right-lines w s = s ∙ rw (← p, ← n, ← x, z, ← q, ← k, ← y, w)
 
 -- the checker's last ground
 module _ (r t : Bool) (p : r ≡ t) where

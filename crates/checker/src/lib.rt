@@ -4,21 +4,21 @@ use base::Ground;
 use table::Entry;
 use table::Look;
 ghost use mathlib.Core.Path.{_≡_};
-ghost use mathlib.Core.Bool.{Bool·beq, cond, _||_};
-ghost use mathlib.Core.List.{[], map};
-ghost use Prim.Native.Nat.{_+_, _≤_, _<_, suc};
-ghost use lib.Dec.{leb, eqb};
-ghost use lib.ListN.{length, drop, getD};
-ghost use Rattle.base.specs.Limits.{symbols};
+ghost use mathlib.Core.Bool.{cond, _||_};
+ghost use mathlib.Core.List.{[]};
+ghost use Prim.Native.Nat.{_≤_, _<_, suc};
+ghost use lib.Dec.{leb, ltb, eqb};
+ghost use lib.ListN.{length};
+ghost use Rattle.base.specs.Limits.{symbols, patternLimit};
 ghost use Rattle.words.specs.Symbols.{symbolsOf};
-ghost use Rattle.lines.specs.Lines.{cut};
 ghost use Rattle.lists.specs.Lists.{judgeLines};
 ghost use Rattle.lists.specs.declared.Form.{Form};
 ghost use Rattle.lists.specs.declared.Lines.{Lines};
-ghost use Rattle.liang.specs.Patterns.{levelsFrom, patternOf, patternsOf};
+ghost use Rattle.liang.specs.Patterns.{levelsFrom, patternsOf};
 ghost use Rattle.table.specs.Table.{cellCount, entryCount, cellsOf, entriesOf};
 ghost use Rattle.right.specs.Right.{sound};
-ghost use Rattle.right.specs.Test.{allFrom, kindsFrom, child, childrenRight, exactTest, nodeRight, follow, patternsRight, rightTest, judgeCheck};
+ghost use Rattle.right.specs.Test.{kindsFrom, exactTest, childAt, noneBetween, passedOver, follow, rootAt, patternsRight, rightTest, judgeCheck};
+ghost use Rattle.checker.specs.Post.{sameLevels};
 
 // The kinds of so many records that stand size bytes apart.
 fn are_kinds(bytes: &[u8], size: u8, kind: u8, count: u16) -> bool
@@ -40,14 +40,14 @@ fn are_kinds(bytes: &[u8], size: u8, kind: u8, count: u16) -> bool
     true
 }
 
-// A chain without a fault, for a path of m symbols. The number falls at each call.
-fn is_sound(entries: &[u8], k: u16, m: usize) -> bool
-    ensures { λ r. ⌜ r ≡ sound (now (entries .entry)) m k ⌝ }
+// A chain without a fault, for a path of m symbols. The number falls at each call, the last thing done, which takes no stack.
+fn is_sound(entries: &&[u8], k: u16, m: usize) -> bool
+    ensures { λ r. ⌜ r ≡ sound (now (now (entries .entry))) m k ⌝ }
 {
     if k == 0 {
         return true;
     }
-    let entry = table::entry_at(entries, k);
+    let entry = table::entry_at(*entries, k);
     let Entry::Has {
         distance,
         level,
@@ -72,202 +72,227 @@ fn is_sound(entries: &[u8], k: u16, m: usize) -> bool
 }
 
 // Do the levels of a chain, in a room as walk::chain_levels leaves it, agree with a line's?
-fn are_levels(line: &[u8], m: usize, room: &[u8]) -> bool
-    requires { ⌜ m + 1 < length (now room) ⌝ }
-    ensures { λ r. ⌜ r ≡ allFrom (λ gap. eqb (getD (now (room .entry)) (gap + 1) 0) (getD (levelsFrom 0 (now (line .entry))) gap 0)) 0 (suc m) ⌝ }
+fn are_levels(line: &[u8], room: &[u8; base::ROOM]) -> bool
+    requires { ⌜ length (symbolsOf (now line)) ≤ patternLimit ⌝ }
+    ensures { λ r. ⌜ r ≡ sameLevels (now (room .entry)) 0 (levelsFrom 0 (now (line .entry))) ⌝ }
 {
     let mut gap: usize = 0;
-    while gap <= m {
-        if room[gap + 1] != patterns::level_at(line, gap) {
-            return false;
+    let mut level: u8 = 0;
+    let mut i = 0;
+    while i < line.len() {
+        let b = line[i];
+        i += 1;
+        if words::is_digit(b) {
+            level = patterns::digit_value(b);
+        } else {
+            if words::symbol_of(b) != 0 {
+                gap += 1;
+                if room[gap] != level {
+                    return false;
+                }
+                level = 0;
+            }
         }
-        gap += 1;
     }
-    true
+    room[gap + 1] == level
 }
 
 // Is an output exact for a pattern line of m symbols?
-fn is_exact(entries: &[u8], line: &[u8], m: u8, output: u16) -> bool
-    requires { ⌜ m ≤ 16 ⌝ }
+fn is_exact(entries: &[u8], line: &[u8], m: usize, output: u16) -> bool
+    requires { ⌜ (m ≡ length (symbolsOf (now line))) × (m ≤ patternLimit) ⌝ }
     ensures { λ r. ⌜ r ≡ exactTest (now (entries .entry)) (levelsFrom 0 (now (line .entry))) m output ⌝ }
 {
-    let length = m as usize;
-    if !is_sound(entries, output, length) {
+    if !is_sound(&entries, output, m) {
         return false;
     }
-    let mut room = [0u8; 18];
-    walk::chain_levels(entries, output, m, &mut room);
-    are_levels(line, length, &room)
+    let mut room = [0u8; base::ROOM];
+    walk::chain_levels(entries, output, m as u8, &mut room);
+    are_levels(line, &room)
 }
 
-// Does the table go on with this symbol?
-fn has_child(cells: &[u8], leaf: bool, base: u16, symbol: u8) -> bool
-    ensures { λ r. ⌜ r ≡ child (now (cells .entry)) leaf base symbol ⌝ }
+// How the table goes on from a node with a symbol.
+fn child_at(cells: &[u8], leaf: bool, base: u16, symbol: u8) -> Look
+    ensures { λ r. ⌜ r ≡ childAt (now (cells .entry)) (record { leaf = leaf; base = base }) symbol ⌝ }
 {
     if leaf {
-        return false;
+        return Look::Miss;
     }
-    let found = table::look_at(cells, base, symbol);
-    match found {
-        Look::Hit { link: _, output: _ } => true,
-        Look::Miss => false,
-    }
+    table::look_at(cells, base, symbol)
 }
 
-fn agree(a: bool, b: bool) -> bool
-    ensures { λ r. ⌜ r ≡ Bool·beq a b ⌝ }
+// Does the table go on from a node with no symbol between two others?
+fn is_none_between(cells: &[u8], leaf: bool, base: u16, low: u8, high: u8) -> bool
+    ensures { λ r. ⌜ r ≡ noneBetween (now (cells .entry)) (record { leaf = leaf; base = base }) low high ⌝ }
 {
-    if a {
-        return b;
+    if leaf {
+        return true;
     }
-    !b
-}
-
-// Does the table go on with exactly the symbols of a mask?
-fn are_children(cells: &[u8], leaf: bool, base: u16, mask: &[u8]) -> bool
-    requires { ⌜ symbols < length (now mask) ⌝ }
-    ensures { λ r. ⌜ r ≡ allFrom (λ s. Bool·beq (child (now (cells .entry)) leaf base s) (eqb (getD (now (mask .entry)) s 0) 1)) 1 symbols ⌝ }
-{
-    let mut symbol: u8 = 1;
-    while symbol <= base::SYMBOLS {
-        let wanted = mask[symbol as usize] == 1;
-        if !agree(has_child(cells, leaf, base, symbol), wanted) {
-            return false;
+    let mut symbol = low as u16 + 1;
+    while symbol < high as u16 {
+        let found = table::look_at(cells, base, symbol as u8);
+        if let Look::Hit { link: _, output: _ } = found {
+            return false; // a path that the list hasn't
         }
         symbol += 1;
     }
-    true
+    true // nothing matches
 }
 
-// Do table and list go on alike behind the first m symbols of own?
-fn is_continued(
+// The symbols below s that the list passes over at a node of m symbols.
+fn is_clear_below(
     cells: &[u8],
+    known: usize,
+    low: u8,
     leaf: bool,
     base: u16,
     m: usize,
-    own: &[u8],
-    text: &[u8],
-    at: usize,
+    s: u8,
 ) -> bool
-    ensures { λ r. ⌜ r ≡ childrenRight (now (cells .entry)) leaf base m (symbolsOf (now (own .entry))) (map patternOf (cut (drop at (now (text .entry))))) ⌝ }
+    ensures { λ r. ⌜ r ≡ (ltb m known || noneBetween (now (cells .entry)) (record { leaf = leaf; base = base }) (cond (eqb m known) low 0) s) ⌝ }
 {
-    let mut mask = [0u8; 28];
-    patterns::mark_next(own, m, text, at, &mut mask);
-    are_children(cells, leaf, base, &mask)
+    if m < known {
+        return true;
+    }
+    if m == known {
+        return is_none_between(cells, leaf, base, low, s);
+    }
+    is_none_between(cells, leaf, base, 0, s)
 }
 
-// The output of a beginning of m symbols of the line own: exact for the whole line, 0 for another.
-fn is_output_right(entries: &[u8], own: &[u8], m: u8, whole: bool, output: u16) -> bool
-    requires { ⌜ m ≤ 16 ⌝ }
-    ensures { λ r. ⌜ r ≡ cond whole (exactTest (now (entries .entry)) (levelsFrom 0 (now (own .entry))) m output) (eqb output 0) ⌝ }
+// The symbols above s that the list passes over there.
+fn is_clear_above(cells: &[u8], kept: usize, leaf: bool, base: u16, m: usize, s: u8) -> bool
+    ensures { λ r. ⌜ r ≡ (leb m kept || noneBetween (now (cells .entry)) (record { leaf = leaf; base = base }) s (suc symbols)) ⌝ }
 {
-    if whole {
-        return is_exact(entries, own, m, output);
+    if m <= kept {
+        return true;
+    }
+    is_none_between(cells, leaf, base, s, base::SYMBOLS + 1)
+}
+
+// Both.
+fn is_passed_over(
+    cells: &[u8],
+    known: usize,
+    low: u8,
+    kept: usize,
+    leaf: bool,
+    base: u16,
+    m: usize,
+    s: u8,
+) -> bool
+    ensures { λ r. ⌜ r ≡ passedOver (now (cells .entry)) (record { known = known; low = low; kept = kept }) (record { leaf = leaf; base = base }) m s ⌝ }
+{
+    if !is_clear_below(cells, known, low, leaf, base, m, s) {
+        return false;
+    }
+    is_clear_above(cells, kept, leaf, base, m, s)
+}
+
+// The output of a beginning of m symbols that isn't a whole pattern.
+fn is_silent(known: usize, m: usize, output: u16) -> bool
+    ensures { λ r. ⌜ r ≡ (leb m known || eqb output 0) ⌝ }
+{
+    if m <= known {
+        return true;
     }
     output == 0
 }
 
-// A beginning of m symbols of the line own, reached with this link and output.
-fn is_node_right(
+// A whole pattern line at its node: its output, and how the table goes on.
+fn is_end_right(
     cells: &[u8],
     entries: &[u8],
     own: &[u8],
-    text: &[u8],
-    at: usize,
-    m: u8,
-    whole: bool,
-    link: u16,
+    known: usize,
+    low: u8,
+    kept: usize,
+    leaf: bool,
+    base: u16,
+    m: usize,
     output: u16,
 ) -> bool
-    requires { ⌜ m ≤ 16 ⌝ }
-    ensures { λ r. ⌜ r ≡ nodeRight (now (cells .entry)) (now (entries .entry)) (patternOf (now (own .entry))) (map patternOf (cut (drop at (now (text .entry))))) m whole link output ⌝ }
+    requires { ⌜ (m ≡ length (symbolsOf (now own))) × (m ≤ patternLimit) ⌝ }
+    ensures { λ r. ⌜ r ≡ follow (now (cells .entry)) (now (entries .entry)) (levelsFrom 0 (now (own .entry))) (record { known = known; low = low; kept = kept }) (record { leaf = leaf; base = base }) output m [] ⌝ }
 {
-    if !is_output_right(entries, own, m, whole, output) {
+    if !is_exact(entries, own, m, output) {
         return false;
     }
-    if base::PATTERN_LIMIT <= m as usize {
+    if base::PATTERN_LIMIT <= m {
         return true;
     }
-    is_continued(cells, link == 0, link, m as usize, own, text, at)
+    is_passed_over(cells, known, low, kept, leaf, base, m, 0)
 }
 
-// The same, for a beginning that the line above has too and that was tested there.
-fn is_known_or_right(
-    known: usize,
-    cells: &[u8],
-    entries: &[u8],
-    own: &[u8],
-    text: &[u8],
-    at: usize,
-    m: u8,
-    whole: bool,
-    link: u16,
-    output: u16,
-) -> bool
-    requires { ⌜ m ≤ 16 ⌝ }
-    ensures { λ r. ⌜ r ≡ (leb m known || nodeRight (now (cells .entry)) (now (entries .entry)) (patternOf (now (own .entry))) (map patternOf (cut (drop at (now (text .entry))))) m whole link output) ⌝ }
-{
-    if m as usize <= known {
-        return true;
-    }
-    is_node_right(cells, entries, own, text, at, m, whole, link, output)
-}
-
-// The line own followed through the table, each of its new beginnings tested.
+// A pattern line followed through the table, between what it shares with its neighbours.
 fn is_followed(
     cells: &[u8],
     entries: &[u8],
     root: u16,
-    known: usize,
     own: &[u8],
-    text: &[u8],
-    at: usize,
+    known: usize,
+    low: u8,
+    kept: usize,
 ) -> bool
-    requires { ⌜ length (symbolsOf (now own)) ≤ 16 ⌝ }
-    ensures { λ r. ⌜ r ≡ follow (now (cells .entry)) (now (entries .entry)) (patternOf (now (own .entry))) (map patternOf (cut (drop at (now (text .entry))))) known root 0 (symbolsOf (now (own .entry))) ⌝ }
+    requires { ⌜ length (symbolsOf (now own)) ≤ patternLimit ⌝ }
+    ensures { λ r. ⌜ r ≡ follow (now (cells .entry)) (now (entries .entry)) (levelsFrom 0 (now (own .entry))) (record { known = known; low = low; kept = kept }) (rootAt root) 0 0 (symbolsOf (now (own .entry))) ⌝ }
 {
-    let n = patterns::symbol_count(own);
+    let mut leaf = false;
     let mut base = root;
-    let mut m: u8 = 0;
-    while (m as usize) < n {
-        let symbol = patterns::symbol_at(own, m as usize);
-        let found = table::look_at(cells, base, symbol);
-        let Look::Hit { link, output } = found else {
-            return false;
-        };
-        m += 1;
-        let whole = m as usize == n;
-        if !is_known_or_right(known, cells, entries, own, text, at, m, whole, link, output) {
-            return false;
+    let mut output: u16 = 0;
+    let mut m: usize = 0;
+    let mut i = 0;
+    while i < own.len() {
+        let symbol = words::symbol_of(own[i]);
+        i += 1;
+        if symbol != 0 {
+            if !is_silent(known, m, output) {
+                return false;
+            }
+            if !is_passed_over(cells, known, low, kept, leaf, base, m, symbol) {
+                return false;
+            }
+            let found = child_at(cells, leaf, base, symbol);
+            let Look::Hit { link, output: next } = found else {
+                return false;
+            };
+            leaf = link == 0;
+            base = link;
+            output = next;
+            m += 1;
         }
-        if whole {
-            return true;
-        }
-        if link == 0 {
-            return false;
-        }
-        base = link;
     }
-    true
+    is_end_right(cells, entries, own, known, low, kept, leaf, base, m, output)
 }
 
-// Every line of a good text followed through the table.
+// Every line of a good text followed through the table; behind the last one, the root goes on with no further symbol.
 fn are_lines_right(cells: &[u8], entries: &[u8], root: u16, text: &[u8]) -> bool
     requires { ⌜ judgeLines Form.Patterns (now text) ≡ Lines.Good ⌝ }
     ensures { λ r. ⌜ r ≡ patternsRight (now (cells .entry)) (now (entries .entry)) root [] (patternsOf (now (text .entry))) ⌝ }
 {
-    let mut above = 0;
+    let mut known: usize = 0;
+    let mut low: u8 = 0;
     let mut at = 0;
+    let mut end = lines::line_end(text, 0);
     while at < text.len() {
-        let end = lines::line_end(text, at);
-        let known = patterns::shared(&text[above..at], &text[at..end]);
-        if !is_followed(cells, entries, root, known, &text[at..end], text, at) {
+        let next = lines::line_end(text, end);
+        let below = patterns::part_lines(&text[at..end], &text[end..next]);
+        if !is_followed(
+            cells,
+            entries,
+            root,
+            &text[at..end],
+            known,
+            low,
+            below.shared,
+        ) {
             return false;
         }
-        above = at;
+        known = below.shared;
+        low = below.symbol;
         at = end;
+        end = next;
     }
-    true
+    is_none_between(cells, false, root, low, base::SYMBOLS + 1)
 }
 
 // Is a judged table right for a judged list?
@@ -281,9 +306,6 @@ fn is_right(text: &[u8], table: &[u8], root: u16) -> bool
         return false;
     }
     if !are_kinds(entries, 5, 3, table::entry_count(table)) {
-        return false;
-    }
-    if !is_continued(cells, false, root, 0, &text[..0], text, 0) {
         return false;
     }
     are_lines_right(cells, entries, root, text)

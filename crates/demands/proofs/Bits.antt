@@ -39,6 +39,7 @@ use Rattle.hyphenation.specs.Calls.{rootBase, judgeRoom, judgeMargins, judgeLev
 use Rattle.hyphenation.specs.declared.Answer.{Answer}
 use Rattle.hyphenation.specs.declared.Answer.the-variants as answers
 use Rattle.hyphenation.proofs.Laws.{sheet-length}
+use Rattle.words.proofs.Laws.{word-fits}
 use Rattle.hyphenation.proofs.Calls.{levels-sizes, breaks-sizes}
 use Rattle.hyphenation.proofs.Theorems.{word-few, breaks-few}
 use Rattle.fit.specs.Table.{Fit, NoRoom, Packed, firstFit}
@@ -239,7 +240,7 @@ unfolding levelSheet sheet
 levels-bits word table size =
     reads-answer (judgeLevels word table size) (levelSheet (cellsOf table) (entriesOf table) rootBase word) (wordLooks (cellsOf table) rootBase word)
     (levels-small word table size) (sheet-length _ 0 roomSize)
-    λ e. few word (levels-sizes word table size refl e .0) (word-few (cellsOf table) rootBase word)
+    λ e. few word (word-fits wordLimit word (levels-sizes word table size refl e .0)) (word-few (cellsOf table) rootBase word)
 
 -- The hyphenating call's bits say what it answers.
 pub hyphenate-bits : (left right : ℕ) (word customer house table : List ℕ) (size : ℕ)
@@ -248,7 +249,7 @@ unfolding breakSheet sheet
 hyphenate-bits left right word customer house table size =
     reads-answer (judgeHyphenate left right word customer house table size) (breaksSheet left right word customer house table) (breaksLooks word customer house table)
     (hyphenate-small left right word customer house table size) (sheet-length _ 0 roomSize)
-    λ e. few word (breaks-sizes left right word customer house table size refl e .0) (breaks-few customer house (cellsOf table) rootBase word)
+    λ e. few word (word-fits wordLimit word (breaks-sizes left right word customer house table size refl e .0)) (breaks-few customer house (cellsOf table) rootBase word)
 
 -- The checker's bits say what it answers: all zero, or the refusal.
 pub ReadsCheck : Check → ℕ → Type 0

@@ -1,12 +1,12 @@
 -- "Marked (p): proved from the written definitions as a single table under one statement."
 use Prim.Native.Nat.{ℕ, zero, suc, _+_, _*_, _-_}
-use mathlib.Core.Bool.{Bool, true, false, _&&_}
+use mathlib.Core.Bool.{Bool, true, _&&_}
 use mathlib.Core.List.{List, [], _∷_, _++_, map}
 use mathlib.Core.Path.{_≡_, refl}
-use lib.Dec.{leb, eqb}
+use lib.Dec.{eqb}
 use lib.ListN.{length, take, drop}
 use Rattle.base.specs.Limits.{roomSize}
-use Rattle.base.specs.Grounds.{Told, told, plain}
+use Rattle.base.specs.Grounds.{told}
 use Rattle.base.specs.declared.Check.{Check}
 use Rattle.base.specs.declared.Check.the-variants.{Fine, Refused}
 use Rattle.words.specs.Symbols.{small, capital, letter, lower, digit, symbolOf, symbolsOf}
@@ -31,9 +31,10 @@ use Rattle.hyphenation.specs.declared.Answer.the-variants as answers
 use Rattle.table.specs.declared.Look.{Look}
 use Rattle.table.specs.declared.Look.the-variants.{Hit, Miss}
 use Rattle.patterns.specs.Common.{common}
+use Rattle.patterns.specs.Next.{nextIn}
 use Rattle.right.specs.Paths.{onward, along}
 use Rattle.right.specs.Right.{soundStep, soundFrom, sound}
-use Rattle.right.specs.Test.{allFrom, kindsFrom, child, nextIn, childrenRight, exactTest, nodeRight, followStep, follow, patternsRight, rightTest, judgeCheck}
+use Rattle.right.specs.Test.{allFrom, kindsFrom, exactTest, childAt, noneBetween, passedOver, followStep, follow, besides, patternsRight, rightTest, judgeCheck}
 use Rattle.fit.specs.Cells.{putNumber, isFree, serves, smallest, baseFor, inside, putCell, putCells, cellOf, putLink, placeAt, place, opens, placeLength, placeLengths, layoutOf, usedFrom}
 use Rattle.fit.specs.Entries.{holds, findEntry, putEntry, enterAt, enter, enterLevels, enterPattern, putOutput, outputOf, outputsOf}
 use Rattle.fit.specs.Table.{putKinds, Fit, NoRoom, Packed, bytesOf, finish, fitLayout, firstFit}
@@ -137,5 +138,5 @@ table =
     ∷ []
 
 pub figures : allOf table ≡ true
-unfolding table nine count levels breaks small capital letter lower digit symbolOf symbolsOf allLetters judgeWord wordSymbols rowOf inner glue cut isNil startsWith anyOf patternForm goodPattern exceptionForm goodException before goodLine firstBad judgeLines judgeSize judgePatterns judgeLists same findLine find findEither levelsFrom patternOf patternsOf begins levelHere levelOf highest liang hyphenAt inMargins odd levelBreak isBreak badMargin levelsCall hyphenateCall emptyTable numberAt cellCount entryCount formed judgeTable cellsOf entriesOf look entryAt setting chainStep chainFrom chain setStep setFrom lookStep looksFrom settings looks highestSet sheetFrom sheet nonzero levelAt levelSheet wordLooks breakSheet breakLooks judgeRoom judgeMargins judgeLevels judgeHyphenate packed baseOf sizes common onward along soundStep soundFrom sound allFrom kindsFrom child nextIn childrenRight exactTest nodeRight followStep follow patternsRight rightTest judgeCheck putNumber isFree serves smallest baseFor inside putCell putCells cellOf putLink placeAt place opens placeLength placeLengths layoutOf usedFrom holds findEntry putEntry enterAt enter enterLevels enterPattern putOutput outputOf outputsOf putKinds bytesOf finish fitLayout firstFit
+unfolding table nine count levels breaks small capital letter lower digit symbolOf symbolsOf allLetters judgeWord wordSymbols rowOf inner glue cut isNil startsWith anyOf patternForm goodPattern exceptionForm goodException before goodLine firstBad judgeLines judgeSize judgePatterns judgeLists same findLine find findEither levelsFrom patternOf patternsOf begins levelHere levelOf highest liang hyphenAt inMargins odd levelBreak isBreak badMargin levelsCall hyphenateCall emptyTable numberAt cellCount entryCount formed judgeTable cellsOf entriesOf look entryAt setting chainStep chainFrom chain setStep setFrom lookStep looksFrom settings looks highestSet sheetFrom sheet nonzero levelAt levelSheet wordLooks breakSheet breakLooks judgeRoom judgeMargins judgeLevels judgeHyphenate packed baseOf sizes common onward along soundStep soundFrom sound nextIn allFrom kindsFrom exactTest childAt noneBetween passedOver followStep follow besides patternsRight rightTest judgeCheck putNumber isFree serves smallest baseFor inside putCell putCells cellOf putLink placeAt place opens placeLength placeLengths layoutOf usedFrom holds findEntry putEntry enterAt enter enterLevels enterPattern putOutput outputOf outputsOf putKinds bytesOf finish fitLayout firstFit
 figures = refl

@@ -1,7 +1,7 @@
 -- First fit: where the cells of a list's paths go. Cells are written into a list of bytes that starts as zeros, 6 bytes a cell;
 -- a cell is free while its symbol byte is 0. `taken` has a mark for each base that a path has.
 use Prim.Native.Nat.{ℕ, zero, suc, _+_, _*_, _-_}
-use mathlib.Core.Bool.{Bool, true, false, cond, not, _&&_, _||_}
+use mathlib.Core.Bool.{Bool, cond, not, _&&_, _||_}
 use mathlib.Core.List.{List, [], _∷_}
 use lib.Dec.{leb, ltb, eqb}
 use lib.ListN.{length, getD, set, take, drop, replicate}
@@ -10,7 +10,8 @@ use Rattle.liang.specs.Patterns.{Pattern}
 use Rattle.table.specs.Table.{cellKind, cellSize, numberAt}
 unfoldable pub use Rattle.table.specs.Table.{putNumber}
 use Rattle.patterns.specs.Common.{common}
-use Rattle.right.specs.Test.{allFrom, nextIn}
+use Rattle.patterns.specs.Next.{nextIn}
+use Rattle.right.specs.Test.{allFrom}
 
 unfoldable pub isFree : List ℕ → ℕ → Bool
 isFree bytes n = eqb (getD bytes (cellSize * n + 1) 0) 0

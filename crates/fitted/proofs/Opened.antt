@@ -16,7 +16,7 @@ use Rattle.liang.specs.Patterns.{Pattern}
 use Rattle.liang.specs.Levels.{begins}
 use Rattle.patterns.specs.Common.{common}
 use Rattle.right.specs.Paths.{nth, noPattern, Beginning}
-use Rattle.right.specs.Test.{nextIn}
+use Rattle.patterns.specs.Next.{nextIn}
 use Rattle.fit.specs.Cells.{opens}
 use Rattle.fitted.proofs.Strings.{_▸_, snoc-length}
 use Rattle.fitted.proofs.Nodes.{Node, Goes}

@@ -15,7 +15,7 @@ use Rattle.liang.specs.Levels.{begins}
 use Rattle.patterns.specs.Common.{common}
 use Rattle.table.specs.Table.{cellSize, numberAt}
 use Rattle.right.specs.Paths.{nth, noPattern}
-use Rattle.right.specs.Test.{nextIn}
+use Rattle.patterns.specs.Next.{nextIn}
 use Rattle.accepted.specs.Shaped.{Shaped}
 use Rattle.accepted.proofs.Strings.{begins-alphabet}
 use Rattle.fit.specs.Cells.{Layout, Full, Fits, serves, smallest, baseFor, inside, putCells, putLink, placeAt, place, opens, placeLength, placeLengths, layoutOf}

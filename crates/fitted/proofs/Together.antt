@@ -17,7 +17,7 @@ use Rattle.liang.specs.Patterns.{Pattern}
 use Rattle.liang.specs.Levels.{begins}
 use Rattle.patterns.specs.Common.{common}
 use Rattle.right.specs.Paths.{nth, Beginning}
-use Rattle.right.specs.Test.{nextIn}
+use Rattle.patterns.specs.Next.{nextIn}
 use Rattle.accepted.proofs.Strings.{begins-cons, begins-more}
 use Rattle.fitted.proofs.Strings.{_▸_, snoc-length}
 

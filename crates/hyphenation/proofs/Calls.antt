@@ -3,16 +3,15 @@ use Prim.Native.Nat.{ℕ, _≤_}
 use mathlib.Core.List.{List}
 use mathlib.Core.Path.{_≡_, sym, _∙_}
 use borrow.Author.Tests.{ltb-false}
-use lib.Dec.{ltb, eqb}
-use lib.ListN.{length, take}
+use lib.Dec.{ltb}
+use lib.ListN.{take}
 use Rattle.base.specs.Limits.{wordLimit, roomSize}
-use Rattle.base.specs.Grounds.{refuseIf}
 use Rattle.base.specs.declared.Check.{Check}
 use Rattle.base.specs.declared.Check.the-variants.{Fine, Refused}
 use Rattle.base.specs.declared.Ground.{Ground}
-use Rattle.base.specs.declared.Ground.the-variants.{RoomShort, WordEmpty, WordLong}
+use Rattle.base.specs.declared.Ground.the-variants.{RoomShort}
 use Rattle.base.proofs.Grounds.{both-fine, not-refused}
-use Rattle.words.specs.Words.{judgeWord, allLetters}
+use Rattle.words.specs.Words.{judgeWord}
 use Rattle.table.specs.Table.{judgeTable, cellsOf, entriesOf}
 use Rattle.hyphenation.specs.Sheet.{sheet, written, nonzero}
 use Rattle.hyphenation.specs.Levels.{levelSheet, wordLooks}
@@ -23,14 +22,7 @@ use Rattle.hyphenation.specs.declared.Answer.{Answer}
 use Rattle.hyphenation.specs.declared.Answer.the-variants as answers
 use Rattle.hyphenation.proofs.Rooms.{written-take}
 
--- what a judged word and a judged room are
-pub word-fits : (limit : ℕ) (word : List ℕ) → judgeWord limit word ≡ Fine → length word ≤ limit
-unfolding judgeWord
-word-fits limit word e =
-    ltb-false limit (length word)
-    (not-refused (ltb limit (length word)) WordLong
-    (both-fine (refuseIf (ltb limit (length word)) WordLong) (allLetters 0 word) (both-fine (refuseIf (eqb (length word) 0) WordEmpty) _ e .1) .0))
-
+-- what a judged room is
 pub room-fits : (size : ℕ) → judgeRoom size ≡ Fine → roomSize ≤ size
 unfolding judgeRoom
 room-fits size e = ltb-false size roomSize (not-refused (ltb size roomSize) RoomShort e)
@@ -72,18 +64,18 @@ pub found : (sheet : List ℕ) (looks : ℕ) (room : List ℕ) {judged judgement
     → Answered Fine sheet looks room r after → Answered judgement sheet looks room r after
 found sheet looks room p q a = let e = sym p ∙ q in rw e a
 
-pub levels-sizes : (word table : List ℕ) (size : ℕ) {judged : Check} → judged ≡ judgeLevels word table size → judged ≡ Fine → (length word ≤ wordLimit) × (roomSize ≤ size)
+pub levels-sizes : (word table : List ℕ) (size : ℕ) {judged : Check} → judged ≡ judgeLevels word table size → judged ≡ Fine → (judgeWord wordLimit word ≡ Fine) × (roomSize ≤ size)
 unfolding judgeLevels
 levels-sizes word table size p q =
     let a = both-fine (judgeRoom size) _ (sym p ∙ q) in
     let b = both-fine (judgeWord wordLimit word) (judgeTable table) (a .1) in
-    (word-fits wordLimit word (b .0), room-fits size (a .0))
+    (b .0, room-fits size (a .0))
 
 pub breaks-sizes : (left right : ℕ) (word customer house table : List ℕ) (size : ℕ) {judged : Check} → judged ≡ judgeHyphenate left right word customer house table size → judged ≡ Fine
-    → (length word ≤ wordLimit) × (roomSize ≤ size)
+    → (judgeWord wordLimit word ≡ Fine) × (roomSize ≤ size)
 unfolding judgeHyphenate
 breaks-sizes left right word customer house table size p q =
     let a = both-fine (judgeMargins left right) _ (sym p ∙ q) in
     let b = both-fine (judgeRoom size) _ (a .1) in
     let c = both-fine (judgeWord wordLimit word) _ (b .1) in
-    (word-fits wordLimit word (c .0), room-fits size (b .0))
+    (c .0, room-fits size (b .0))

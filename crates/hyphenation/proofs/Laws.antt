@@ -1,12 +1,12 @@
 -- Laws about rooms and breaks: one for each way through the code.
 use Prim.Native.Nat.{ℕ, zero, suc, _+_, _-_, _%_, _≤_, _<_}
-use mathlib.Core.Bool.{Bool, true, false, cond}
+use mathlib.Core.Bool.{Bool, true, false, cond, _&&_, and-false}
 use mathlib.Core.List.{List, [], _∷_, _++_, append-assoc}
 use mathlib.Core.Path.{_≡_, refl, sym, _∙_, ap}
 use native.Mathlib.Numerals.{add-one}
 use native.Mathlib.Omega.{arith}
 use borrow.Author.Tests.{lt-leb, le-leb, lt-ltb, le-ltb, eq-eqb, ne-eqb, eqb-true, eqb-false}
-use lib.Dec.{ltb, eqb}
+use lib.Dec.{leb, ltb, eqb}
 use lib.ListN.{length, getD, take, drop, set, drop-of-length-le}
 use lib.Seq.{set-at, getD-at}
 use Rattle.base.specs.Limits.{roomSize, marginLimit}
@@ -102,35 +102,37 @@ unfolding mark
 mark-end line i gap room h = rw (drop-of-length-le line h)
 
 -- a gap that the levels break
-module _ (left right n level i : ℕ) where
-  pub break-first : i < 1 → 0 ≡ bit (levelBreak left right n (λ k. level) i)
-  unfolding levelBreak inner
-  break-first h = rw (lt-leb 1 i h)
+module _ (left right n : ℕ) (level : ℕ → ℕ) (i : ℕ) where
+  pub break-left : i < left → levelBreak left right n level i ≡ false
+  unfolding levelBreak inMargins
+  break-left l = rw (lt-leb left i l) (and-false (inner n i))
 
-  pub break-last : 1 ≤ i → n ≤ i → 0 ≡ bit (levelBreak left right n (λ k. level) i)
-  unfolding levelBreak inner
-  break-last h k = rw (le-leb 1 i h, le-ltb i n k)
-
-  pub break-left : 1 ≤ i → i < n → i < left → 0 ≡ bit (levelBreak left right n (λ k. level) i)
-  unfolding levelBreak inner inMargins
-  break-left h k l = rw (le-leb 1 i h, lt-ltb i n k, lt-leb left i l)
-
-  pub break-right : 1 ≤ i → i < n → left ≤ i → n - i < right → 0 ≡ bit (levelBreak left right n (λ k. level) i)
-  unfolding levelBreak inner inMargins
-  break-right h k l m = rw (le-leb 1 i h, lt-ltb i n k, le-leb left i l, lt-leb right (n - i) m)
-
-  pub break-odd : 1 ≤ i → i < n → left ≤ i → right ≤ n - i → level % 2 ≡ bit (levelBreak left right n (λ k. level) i)
-  unfolding levelBreak inner inMargins odd
-  break-odd h k l m = rw (le-leb 1 i h, lt-ltb i n k, le-leb left i l, le-leb right (n - i) m) (go (eqb (level % 2) 1) refl)
+  pub break-right : n - i < right → levelBreak left right n level i ≡ false
+  unfolding levelBreak inMargins
+  break-right l = rw (lt-leb right (n - i) l) (either (inner n i) (leb left i))
     where
-      go : (z : Bool) → eqb (level % 2) 1 ≡ z → level % 2 ≡ bit z
-      go true p = eqb-true (level % 2) 1 p
-      go false p = let q : level % 2 ≡ 1 → ⊥ = eqb-false (level % 2) 1 p in omega arith
+      either : (a b : Bool) → (a && ((b && false) && odd (level i))) ≡ false
+      either true true = refl
+      either true false = refl
+      either false b = refl
 
-pub break-level : (left right n i x : ℕ) (d : List ℕ) {r : ℕ} → r ≡ bit (levelBreak left right n (λ k. x) i) → x ≡ getD d i 0
-    → r ≡ bit (levelBreak left right n (λ k. getD d k 0) i)
-unfolding levelBreak
-break-level left right n i x d e q = e ∙ rw q
+  pub break-outer : n ≤ i → levelBreak left right n level i ≡ false
+  unfolding levelBreak inner
+  break-outer h = rw (le-ltb i n h) (either (leb 1 i))
+    where
+      either : (a : Bool) → ((a && false) && (inMargins left right n i && odd (level i))) ≡ false
+      either true = refl
+      either false = refl
+
+  -- inside the margins a level's parity decides; a gap that isn't an inner one has none
+  pub break-odd : left ≤ i → right ≤ n - i → (inner n i ≡ false → level i ≡ 0) → level i % 2 ≡ bit (levelBreak left right n level i)
+  unfolding levelBreak inMargins odd
+  break-odd l m none = rw (le-leb left i l, le-leb right (n - i) m) (go (inner n i) refl (eqb (level i % 2) 1) refl)
+    where
+      go : (a : Bool) → inner n i ≡ a → (z : Bool) → eqb (level i % 2) 1 ≡ z → level i % 2 ≡ bit (a && z)
+      go true q true p = eqb-true (level i % 2) 1 p
+      go true q false p = let r : level i % 2 ≡ 1 → ⊥ = eqb-false (level i % 2) 1 p in omega arith
+      go false q z p = omega (arith, none q)
 
 -- grounds 5 and 1
 pub room-short : (n : ℕ) → n < roomSize → Refused RoomShort ≡ judgeRoom n

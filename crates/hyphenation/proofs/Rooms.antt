@@ -1,14 +1,14 @@
 -- What stands in a room at each byte: after settings are raised, after a line is marked, and in a sheet.
-use Prim.Native.Nat.{ℕ, zero, suc, _+_, _-_, _≤_, _<_, min}
+use Prim.Native.Nat.{ℕ, zero, suc, _+_, _-_, _≤_, _<_}
 use mathlib.Core.Bool.{Bool, true, false, cond, _&&_}
 use mathlib.Core.List.{List, [], _∷_, _++_}
 use mathlib.Core.Path.{_≡_, refl, sym, _∙_, ap}
-use native.Mathlib.Decide.{decLt}
+use native.Mathlib.Decide.{decLt, ℕ-discrete}
 use native.Mathlib.Omega.{arith}
-use borrow.Author.Tests.{lt-ltb, le-ltb, ltb-true}
+use borrow.Author.Tests.{lt-ltb, le-ltb, ltb-true, ltb-false}
 use lib.Dec.{leb, ltb, eqb}
-use lib.ListN.{length, getD, take, drop, set, length-append, length-drop, length-set, List·getD-append}
-use lib.Seq.{getD-set-same, getD-set-other, getD-append-add, getD-drop, ext-getD, drop-append-seam, take-append-seam, take-all}
+use lib.ListN.{length, getD, take, drop, set, replicate, length-append, length-drop, length-set, List·getD-append}
+use lib.Seq.{getD-set-same, getD-set-other, getD-append-add, getD-drop, ext-getD, drop-append-seam, take-append-seam}
 use Rattle.base.specs.Limits.{roomSize, wordLimit}
 use Rattle.words.specs.Symbols.{hyphen}
 use Rattle.words.specs.Words.{rowOf, inner}
@@ -25,8 +25,8 @@ use Rattle.walk.proofs.Raised.{raised-at}
 use Rattle.hyphenation.specs.Sheet.{sheetFrom, sheet, written, bit}
 use Rattle.hyphenation.specs.Levels.{levelAt, levelSheet, wordLooks}
 use Rattle.hyphenation.specs.Breaks.{mark, breakSheet, unlessListed, breakLooks}
-use Rattle.hyphenation.specs.Post.{Done, lineSheet, oddSheet, Silent}
-use Rattle.hyphenation.proofs.Laws.{sheet-length, sheet-at}
+use Rattle.hyphenation.specs.Post.{Done, lineSheet, oddSheet, Inside}
+use Rattle.hyphenation.proofs.Laws.{sheet-length, sheet-at, break-left, break-right, break-outer}
 
 -- a room that has a sheet, byte by byte
 pub written-length : (f : ℕ → ℕ) (d : List ℕ) → roomSize ≤ length d → length (written (sheet f) d) ≡ length d
@@ -56,41 +56,6 @@ written-is f d a h l low high = ext-getD 0 a (written (sheet f) d) (l ∙ sym (w
     at : (i : ℕ) → i < length a → Dec (i < roomSize) → getD a i 0 ≡ getD (written (sheet f) d) i 0
     at i k (yes p) = low i p ∙ sym (written-low f d i p)
     at i k (no p) = high i (omega arith) (omega arith) ∙ sym (written-high f d i (omega arith))
-
--- a gap behind the last letter is no inner one
-outer : (n i : ℕ) → n ≤ i → inner n i ≡ false
-unfolding inner
-outer n i h = rw (le-ltb i n h) (and-no (leb 1 i))
-  where
-    and-no : (b : Bool) → (b && false) ≡ false
-    and-no true = refl
-    and-no false = refl
-
--- breaks kept up to the last letter are those of the whole sheet
-pub kept-all : (left right n : ℕ) (d room : List ℕ) (i : ℕ) → roomSize ≤ length d → n ≤ roomSize → Silent n d → i ≤ n → n ≤ i → length room ≡ length d
-    → room ≡ sheetFrom (λ j. bit (levelBreak left right n (λ k. getD d k 0) j)) 0 i ++ drop i d
-    → room ≡ written (sheet (λ j. bit (levelBreak left right n (λ k. getD d k 0) j))) d
-kept-all left right n d room i h m s a b l e = written-is f d room h l (λ j k. low j k (decLt j n)) (λ j k o. behind j (omega arith))
-  where
-    f : ℕ → ℕ
-    f = λ j. bit (levelBreak left right n (λ k. getD d k 0) j)
-
-    behind : (j : ℕ) → n ≤ j → getD room j 0 ≡ getD d j 0
-    behind j k =
-        let z : j ≡ length (sheetFrom f 0 i) + (j - i) = omega (arith, sheet-length f 0 i) in
-        let y : i + (j - i) ≡ j = omega arith in
-        ap (λ (r : List ℕ). getD r j 0) e
-        ∙ ap (λ (k : ℕ). getD (sheetFrom f 0 i ++ drop i d) k 0) z
-        ∙ getD-append-add (sheetFrom f 0 i) (drop i d) (j - i) 0
-        ∙ getD-drop i d (j - i) 0
-        ∙ ap (λ (k : ℕ). getD d k 0) y
-
-    none : (j : ℕ) → n ≤ j → f j ≡ 0
-    none j k = unfold levelBreak in rw (outer n j k)
-
-    low : (j : ℕ) → j < roomSize → Dec (j < n) → getD room j 0 ≡ f j
-    low j k (yes p) = ap (λ (r : List ℕ). getD r j 0) e ∙ List·getD-append (sheetFrom f 0 i) (drop i d) 0 j (omega (arith, sheet-length f 0 i)) ∙ sheet-at f 0 i j (omega arith) ∙ ap f (omega arith)
-    low j k (no p) = behind j (omega arith) ∙ s j (omega arith) k ∙ sym (none j (omega arith))
 
 pub sheet-same : (f g : ℕ → ℕ) → ((i : ℕ) → i < roomSize → f i ≡ g i) → sheet f ≡ sheet g
 unfolding sheet
@@ -143,34 +108,110 @@ module _ (cells entries : List ℕ) (root : ℕ) (word room : List ℕ) (short :
       high i k l = raised-at (length word) sets clean i (fits i l) ∙ rw (outside i k) (omega (arith, written-high (λ i. 0) room i k))
 
   pub levels-done : {count : ℕ} {after : List ℕ}
-      → Walked cells entries root (min (length word) wordLimit) (rowOf (take (min (length word) wordLimit) word)) (written (sheet (λ i. 0)) room) count after
+      → Walked cells entries root (length word) (rowOf word) (written (sheet (λ i. 0)) room) count after
       → Done (levelSheet cells entries root word) (wordLooks cells root word) room count after
   unfolding wordLooks
-  levels-done w =
-      let m : min (length word) wordLimit ≡ length word = omega arith in
-      let t : take (length word) word ≡ word = take-all (length word) word (omega arith) in
-      let v = rw (m, t) at w in
-      record { counted = v .counted; memory = v .raised ∙ levels-room }
+  levels-done w = record { counted = w .counted; memory = w .raised ∙ levels-room }
 
-  pub levels-silent : {count : ℕ} {levels : List ℕ} → Done (levelSheet cells entries root word) (wordLooks cells root word) room count levels → Silent (length word) levels
-  unfolding levelSheet levelAt
-  levels-silent d i h k = rw (d .memory, written-low (levelAt cells entries root word) room i k, outer (length word) i h)
+-- levels raised in an array of zeros
+module _ (cells entries : List ℕ) (root : ℕ) (word : List ℕ) (short : length word ≤ wordLimit) {count : ℕ} {levels : List ℕ}
+    (w : Walked cells entries root (length word) (rowOf word) (replicate roomSize 0) count levels) where
+  clean : written (sheet (λ i. 0)) (replicate roomSize 0) ≡ replicate roomSize 0
+  unfolding written sheet sheetFrom
+  clean = refl
 
-  pub breaks-done : (left right : ℕ) {count : ℕ} {levels after : List ℕ} → Done (levelSheet cells entries root word) (wordLooks cells root word) room count levels
-      → after ≡ written (sheet (λ i. bit (levelBreak left right (length word) (λ k. getD levels k 0) i))) levels
+  raised : Done (levelSheet cells entries root word) (wordLooks cells root word) (replicate roomSize 0) count levels
+  raised = levels-done cells entries root word (replicate roomSize 0) short (omega arith) (rw clean w)
+
+  raised-byte : (i : ℕ) → i < roomSize → getD levels i 0 ≡ levelAt cells entries root word i
+  unfolding levelSheet
+  raised-byte i k = rw (raised .memory) (written-low (levelAt cells entries root word) (replicate roomSize 0) i k)
+
+  pub raised-inside : Inside (length word) levels
+  raised-inside i k e = raised-byte i k ∙ unfold levelAt in rw e
+
+  -- then put into the room as they are, or as breaks
+  pub levels-put : (room : List ℕ) {after : List ℕ} → after ≡ written (sheet (λ i. getD levels i 0)) room
+      → Done (levelSheet cells entries root word) (wordLooks cells root word) room count after
+  unfolding levelSheet
+  levels-put room e = record { counted = raised .counted; memory = e ∙ ap (λ (l : List ℕ). written l room) (sheet-same _ _ raised-byte) }
+
+  pub breaks-put : (left right : ℕ) (room : List ℕ) {after : List ℕ} → after ≡ written (sheet (λ i. bit (levelBreak left right (length word) (λ k. getD levels k 0) i))) room
       → Done (oddSheet left right cells entries root word) (wordLooks cells root word) room count after
-  unfolding oddSheet levelSheet
-  breaks-done left right {levels = levels} d e =
-      record {
-        counted = d .counted;
-        memory = e ∙ ap (λ (l : List ℕ). written l levels) (sheet-same _ _ same) ∙ rw (d .memory) (written-again _ _ room);
-      }
+  unfolding oddSheet
+  breaks-put left right room e = record { counted = raised .counted; memory = e ∙ ap (λ (l : List ℕ). written l room) (sheet-same _ _ same) }
     where
-      at : (i : ℕ) → i < roomSize → getD levels i 0 ≡ levelAt cells entries root word i
-      at i k = rw (d .memory) (written-low (levelAt cells entries root word) room i k)
-
       same : (i : ℕ) → i < roomSize → bit (levelBreak left right (length word) (λ k. getD levels k 0) i) ≡ bit (levelBreak left right (length word) (levelAt cells entries root word) i)
-      same i k = unfold levelBreak in rw (at i k)
+      same i k = unfold levelBreak in rw (raised-byte i k)
+
+-- one byte of a sheet set
+set-written : (f g : ℕ → ℕ) (d : List ℕ) (k x : ℕ) → roomSize ≤ length d → k < roomSize → x ≡ g k → ((j : ℕ) → j < roomSize → (j ≡ k → ⊥) → f j ≡ g j)
+    → set (written (sheet f) d) k x ≡ written (sheet g) d
+set-written f g d k x large h e same =
+    written-is g d (set room k x) large (length-set room k x ∙ written-length f d large) (λ i l. low i l (ℕ-discrete i k)) (λ i l m. high i l)
+  where
+    room : List ℕ
+    room = written (sheet f) d
+
+    low : (i : ℕ) → i < roomSize → Dec (i ≡ k) → getD (set room k x) i 0 ≡ g i
+    low i l (yes p) = rw (p, getD-set-same room k x 0 (omega (arith, written-length f d large))) e
+    low i l (no p) = getD-set-other room k i x 0 p ∙ written-low f d i l ∙ same i l p
+
+    high : (i : ℕ) → roomSize ≤ i → getD (set room k x) i 0 ≡ getD d i 0
+    high i l = getD-set-other room k i x 0 (λ q. omega (arith, q)) ∙ written-high f d i l
+
+-- breaks put in from the left margin up to the last gap that the right margin leaves
+module _ (left right n : ℕ) (levels : List ℕ) where
+  abbrev broken : ℕ → Bool
+  broken = levelBreak left right n (λ k. getD levels k 0)
+
+  -- the breaks below a gap
+  abbrev pub below : ℕ → ℕ → ℕ
+  below i j = bit (ltb j i && levelBreak left right n (λ k. getD levels k 0) j)
+
+  -- none stands left of the left margin
+  below-left : (j : ℕ) → 0 ≡ below left j
+  below-left j = go (ltb j left) refl
+    where
+      go : (z : Bool) → ltb j left ≡ z → 0 ≡ bit (z && broken j)
+      go true p = rw (break-left left right n (λ k. getD levels k 0) j (ltb-true j left p))
+      go false p = refl
+
+  pub breaks-start : (d room : List ℕ) → room ≡ written (sheet (λ j. 0)) d → room ≡ written (sheet (below left)) room
+  breaks-start d room e =
+      e ∙ sym (written-again (λ j. 0) (λ j. 0) d) ∙ ap (λ (l : List ℕ). written (sheet (λ j. 0)) l) (sym e)
+      ∙ ap (λ (l : List ℕ). written l room) (sheet-same _ _ (λ j k. below-left j))
+
+  pub breaks-turn : (i : ℕ) (d : List ℕ) {room : List ℕ} {x : ℕ} → room ≡ written (sheet (below i)) d → roomSize ≤ length d → i < roomSize → x ≡ bit (levelBreak left right n (λ k. getD levels k 0) i)
+      → set room i x ≡ written (sheet (below (i + 1))) d
+  breaks-turn i d {x = x} e large h q = rw e (set-written (below i) (below (i + 1)) d i x large h (q ∙ here) same)
+    where
+      here : bit (broken i) ≡ below (i + 1) i
+      here = rw (lt-ltb i (i + 1) (omega arith))
+
+      same : (j : ℕ) → j < roomSize → (j ≡ i → ⊥) → below i j ≡ below (i + 1) j
+      same j k p = go (decLt j i)
+        where
+          go : Dec (j < i) → bit (ltb j i && broken j) ≡ bit (ltb j (i + 1) && broken j)
+          go (yes l) = rw (lt-ltb j i l, lt-ltb j (i + 1) (omega arith))
+          go (no l) = rw (le-ltb j i (omega arith), le-ltb j (i + 1) (omega arith))
+
+  -- none stands right of the right margin
+  none : (j : ℕ) → n < j + right → Dec (j < n) → broken j ≡ false
+  none j h (yes k) = break-right left right n (λ k. getD levels k 0) j (omega arith)
+  none j h (no k) = break-outer left right n (λ k. getD levels k 0) j (omega arith)
+
+  pub breaks-end : (i : ℕ) (d : List ℕ) {room : List ℕ} → room ≡ written (sheet (below i)) d → n < i + right → room ≡ written (sheet (λ j. bit (levelBreak left right n (λ k. getD levels k 0) j))) d
+  breaks-end i d e h = e ∙ ap (λ (l : List ℕ). written l d) (sheet-same _ _ (λ j k. go j (ltb j i) refl))
+    where
+      go : (j : ℕ) (z : Bool) → ltb j i ≡ z → bit (z && broken j) ≡ bit (broken j)
+      go j true p = refl
+      go j false p = rw (none j (omega (arith, ltb-false j i p)) (decLt j n))
+
+  -- what the room was before it was cleared doesn't matter
+  pub breaks-cleared : {room after : List ℕ} (d : List ℕ) → room ≡ written (sheet (λ j. 0)) d
+      → after ≡ written (sheet (λ j. bit (levelBreak left right n (λ k. getD levels k 0) j))) room → after ≡ written (sheet (λ j. bit (levelBreak left right n (λ k. getD levels k 0) j))) d
+  breaks-cleared d e f = f ∙ rw e (written-again (λ j. bit (broken j)) (λ j. 0) d)
 
 -- a line marked, byte by byte; `next` is the recursive call
 pub mark-length : (gap : ℕ) (line room : List ℕ) → length (mark gap line room) ≡ length room

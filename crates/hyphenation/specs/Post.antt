@@ -1,10 +1,12 @@
 -- What the parts of the calls leave, as one record for their contracts.
-use Prim.Native.Nat.{ℕ, _≤_, _<_}
+use Prim.Native.Nat.{ℕ, _<_}
+use mathlib.Core.Bool.{false}
 use mathlib.Core.List.{List}
 use mathlib.Core.Path.{_≡_}
 use Rattle.liang.specs.Breaks.{hyphenAt, levelBreak}
 use lib.ListN.{length, getD}
 use Rattle.base.specs.Limits.{roomSize}
+use Rattle.words.specs.Words.{inner}
 use Rattle.hyphenation.specs.Sheet.{sheet, written, bit}
 use Rattle.hyphenation.specs.Levels.{levelAt}
 
@@ -20,6 +22,6 @@ lineSheet line = sheet (λ i. bit (hyphenAt line i))
 unfoldable pub oddSheet : ℕ → ℕ → List ℕ → List ℕ → ℕ → List ℕ → List ℕ
 oddSheet left right cells entries root word = sheet (λ i. bit (levelBreak left right (length word) (levelAt cells entries root word) i))
 
--- Levels of a word of n letters have nothing from byte n of the sheet on.
-abbrev pub Silent : ℕ → List ℕ → Type 0
-Silent n room = (i : ℕ) → n ≤ i → i < roomSize → getD room i 0 ≡ 0
+-- Levels of a word of n letters stand at inner gaps only.
+abbrev pub Inside : ℕ → List ℕ → Type 0
+Inside n levels = (i : ℕ) → i < roomSize → inner n i ≡ false → getD levels i 0 ≡ 0

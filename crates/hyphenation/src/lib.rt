@@ -6,11 +6,13 @@ ghost use mathlib.Core.Path.{_≡_};
 ghost use Prim.Native.Nat.{_≤_};
 ghost use lib.ListN.{length, take, getD};
 ghost use Rattle.base.specs.Limits.{roomSize, wordLimit};
+ghost use Rattle.base.specs.declared.Check.{Check};
+ghost use Rattle.words.specs.Words.{judgeWord};
 ghost use Rattle.liang.specs.Breaks.{badMargin, levelBreak};
 ghost use Rattle.hyphenation.specs.Sheet.{sheet, written, nonzero, bit};
 ghost use Rattle.hyphenation.specs.Levels.{levelSheet, wordLooks};
 ghost use Rattle.hyphenation.specs.Breaks.{mark, breakSheet, breakLooks};
-ghost use Rattle.hyphenation.specs.Post.{Done, lineSheet, oddSheet, Silent};
+ghost use Rattle.hyphenation.specs.Post.{Done, lineSheet, oddSheet, Inside};
 ghost use Rattle.hyphenation.specs.Calls.{judgeRoom, judgeMargins, judgeLevels, judgeHyphenate, Levels, Breaks, Found, WordBreaks};
 
 // What a call answers: how many bytes of the room it set, with the count of looks, or why it refuses.
@@ -109,12 +111,24 @@ fn clear(room: &mut [u8])
     }
 }
 
+// Levels put into the first bytes of a room.
+fn put_levels(levels: &[u8; base::ROOM], room: &mut [u8])
+    requires { ⌜ roomSize ≤ length (now room) ⌝ }
+    ensures { λ _. ⌜ now (room .exit) ≡ written (sheet (λ i. getD (now (levels .entry)) i 0)) (now (room .entry)) ⌝ }
+{
+    let mut i = 0;
+    while i < base::ROOM {
+        room[i] = levels[i];
+        i += 1;
+    }
+}
+
 // How many of the first bytes of a room aren't 0.
 fn count_marks(room: &[u8]) -> usize
     requires { ⌜ roomSize ≤ length (now room) ⌝ }
     ensures { λ r. ⌜ r ≡ nonzero (take roomSize (now (room .entry))) ⌝ }
 {
-    let mut count: usize = 0;
+    let mut count: u8 = 0;
     let mut i = 0;
     while i < base::ROOM {
         let b = room[i];
@@ -123,7 +137,7 @@ fn count_marks(room: &[u8]) -> usize
             count += 1;
         }
     }
-    count
+    count as usize
 }
 
 // An exception line's hyphens, put into the room.
@@ -146,44 +160,32 @@ fn mark_line(line: &[u8], room: &mut [u8])
     }
 }
 
-// Is a gap with this level a break of a word of n letters?
-fn break_at(left: usize, right: usize, n: usize, level: u8, i: usize) -> u8
-    ensures { λ r. ⌜ r ≡ bit (levelBreak left right n (λ k. level) i) ⌝ }
+// The levels of a word of n letters put into a room as breaks: only gaps inside the margins are looked at.
+fn put_breaks(left: usize, right: usize, n: usize, levels: &[u8; base::ROOM], room: &mut [u8])
+    requires { ⌜ (roomSize ≤ length (now room)) × (n ≤ wordLimit) × Inside n (now levels) ⌝ }
+    ensures { λ _. ⌜ now (room .exit) ≡ written (sheet (λ i. bit (levelBreak left right n (λ k. getD (now (levels .entry)) k 0) i))) (now (room .entry)) ⌝ }
 {
-    if i < 1 {
-        return 0;
+    clear(room);
+    if n < right {
+        return;
     }
-    if n <= i {
-        return 0;
-    }
-    if i < left {
-        return 0;
-    }
-    if n - i < right {
-        return 0;
-    }
-    level % 2
-}
-
-// The levels of a word of n letters turned into breaks.
-fn keep_breaks(left: usize, right: usize, n: usize, room: &mut [u8])
-    requires { ⌜ (roomSize ≤ length (now room)) × (n ≤ roomSize) × Silent n (now room) ⌝ }
-    ensures { λ _. ⌜ now (room .exit) ≡ written (sheet (λ i. bit (levelBreak left right n (λ k. getD (now (room .entry)) k 0) i))) (now (room .entry)) ⌝ }
-{
-    let mut i = 0;
-    while i < n {
-        room[i] = break_at(left, right, n, room[i], i);
+    let last = n - right;
+    let mut i = left;
+    while i <= last {
+        room[i] = levels[i] % 2;
         i += 1;
     }
 }
 
 // The levels of a judged word in a judged room, and the count of looks.
 fn levels_judged(cells: &[u8], entries: &[u8], root: u16, word: &[u8], room: &mut [u8]) -> usize
-    requires { ⌜ (length (now word) ≤ wordLimit) × (roomSize ≤ length (now room)) ⌝ }
+    requires { ⌜ (judgeWord wordLimit (now word) ≡ Check.Fine) × (roomSize ≤ length (now room)) ⌝ }
     ensures { λ r. ⌜ Done (levelSheet (now (cells .entry)) (now (entries .entry)) root (now (word .entry))) (wordLooks (now (cells .entry)) root (now (word .entry))) (now (room .entry)) r (now (room .exit)) ⌝ }
 {
-    clear(room);
-    walk::walk_word(cells, entries, root, word, room)
+    let mut levels = [0u8; base::ROOM];
+    let looks = walk::walk_word(cells, entries, root, word, &mut levels);
+    put_levels(&levels, room);
+    looks
 }
 
 // The breaks of a judged word by an exception line.
@@ -205,11 +207,12 @@ fn table_judged(
     word: &[u8],
     room: &mut [u8],
 ) -> usize
-    requires { ⌜ (length (now word) ≤ wordLimit) × (roomSize ≤ length (now room)) ⌝ }
+    requires { ⌜ (judgeWord wordLimit (now word) ≡ Check.Fine) × (roomSize ≤ length (now room)) ⌝ }
     ensures { λ r. ⌜ Done (oddSheet left right (now (cells .entry)) (now (entries .entry)) root (now (word .entry))) (wordLooks (now (cells .entry)) root (now (word .entry))) (now (room .entry)) r (now (room .exit)) ⌝ }
 {
-    let looks = levels_judged(cells, entries, root, word, room);
-    keep_breaks(left, right, word.len(), room);
+    let mut levels = [0u8; base::ROOM];
+    let looks = walk::walk_word(cells, entries, root, word, &mut levels);
+    put_breaks(left, right, word.len(), &levels, room);
     looks
 }
 
@@ -225,7 +228,7 @@ fn breaks_judged<'a>(
     root: u16,
     room: &mut [u8],
 ) -> usize
-    requires { ⌜ (length (now word) ≤ wordLimit) × (roomSize ≤ length (now room)) ⌝ }
+    requires { ⌜ (judgeWord wordLimit (now word) ≡ Check.Fine) × (roomSize ≤ length (now room)) ⌝ }
     ensures { λ r. ⌜ Done (breakSheet left right (now (customer .entry)) (now (house .entry)) (now (cells .entry)) (now (entries .entry)) root (now (word .entry))) (breakLooks (now (customer .entry)) (now (house .entry)) (now (cells .entry)) root (now (word .entry))) (now (room .entry)) r (now (room .exit)) ⌝ }
 {
     let at = lookup::find_either(word, customer, house);
@@ -252,7 +255,7 @@ fn find_breaks<'a>(
     table: &[u8],
     room: &mut [u8],
 ) -> Answer
-    requires { ⌜ (length (now word) ≤ wordLimit) × (roomSize ≤ length (now room)) ⌝ }
+    requires { ⌜ (judgeWord wordLimit (now word) ≡ Check.Fine) × (roomSize ≤ length (now room)) ⌝ }
     ensures { λ r. ⌜ Found left right (now (word .entry)) (now (customer .entry)) (now (house .entry)) (now (table .entry)) (now (room .entry)) r (now (room .exit)) ⌝ }
 {
     let cells = table::cells_of(table);

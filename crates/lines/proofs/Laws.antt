@@ -1,6 +1,6 @@
 -- Laws about single lines: one for each way through the code.
 use Prim.Native.Nat.{ℕ, suc, _+_, _-_, _≤_, _<_}
-use mathlib.Core.Bool.{Bool, true, false, cond, not, _&&_, _||_, or-true, and-false}
+use mathlib.Core.Bool.{Bool, true, false, cond, not, _&&_, _||_, or-true}
 use mathlib.Core.List.{List, [], _∷_}
 use mathlib.Core.Path.{_≡_, refl, sym, _∙_, ap}
 use native.Mathlib.Omega.{arith}
@@ -12,9 +12,12 @@ use lib.Seq.{drop-drop, length-take-le}
 use Rattle.base.specs.Limits.{wordLimit, patternLimit}
 use Rattle.base.proofs.Lists.{cons-at}
 use Rattle.words.specs.Symbols.{feed, hyphen, dot, small, digit, symbolOf, symbolsOf}
-use Rattle.words.proofs.Laws.{small-not-digit, small-symbol, dot-symbol, other-symbol, digit-not-dot, symbols-skip, symbols-keep}
-use Rattle.lines.specs.Lines.{glue, cut, lineLength, isNil, startsWith, anyOf, patternForm, goodPattern, exceptionForm, goodException}
+use Rattle.words.proofs.Laws.{range-low, small-low, small-not-digit, small-symbol, dot-symbol, other-symbol, digit-not-dot, symbols-skip, symbols-keep}
+use Rattle.lines.specs.Lines.{glue, cut, lineLength, firstLine, isNil, startsWith, anyOf, patternForm, goodPattern, exceptionForm, goodException}
 use Rattle.lines.specs.Order.{before}
+use Rattle.lines.specs.Ends.{endIf}
+use Rattle.lines.specs.declared.End.{End}
+use Rattle.lines.specs.declared.End.the-variants.{At, Bad}
 
 -- where a line ends
 module _ (at : ℕ) (w : List ℕ) (i : ℕ) where
@@ -38,6 +41,65 @@ pub dot-in : (w : List ℕ) (i : ℕ) → i < length w → eqb (getD w i 0) feed
 unfolding startsWith
 dot-in w i h = rw (cons-at w i h)
 
+-- a text's first line, byte by byte
+module _ (w : List ℕ) (i : ℕ) (h : i < length w) where
+  first-on : (getD w i 0 ≡ feed → ⊥) → firstLine (drop i w) ≡ getD w i 0 ∷ firstLine (drop (i + 1) w)
+  unfolding firstLine
+  first-on f = rw (cons-at w i h, ne-eqb (getD w i 0) feed f)
+
+  first-feed : getD w i 0 ≡ feed → firstLine (drop i w) ≡ getD w i 0 ∷ []
+  unfolding firstLine
+  first-feed f = rw (cons-at w i h, eq-eqb (getD w i 0) feed f)
+
+first-out : (w : List ℕ) (i : ℕ) → length w ≤ i → firstLine (drop i w) ≡ []
+unfolding firstLine
+first-out w i h = rw (drop-of-length-le w h)
+
+starts-first : (x : ℕ) (t : List ℕ) → startsWith x (firstLine t) ≡ startsWith x t
+unfolding startsWith firstLine
+starts-first x [] = refl
+starts-first x (b ∷ t) = go (eqb b feed)
+  where
+    go : (z : Bool) → startsWith x (cond z (b ∷ []) (b ∷ firstLine t)) ≡ eqb b x
+    go true = refl
+    go false = refl
+
+first-taken : (t : List ℕ) → firstLine t ≡ take (lineLength t) t
+unfolding firstLine lineLength
+first-taken [] = refl
+first-taken (b ∷ t) = go (eqb b feed) (first-taken t)
+  where
+    go : (z : Bool) → firstLine t ≡ take (lineLength t) t → cond z (b ∷ []) (b ∷ firstLine t) ≡ take (cond z 1 (suc (lineLength t))) (b ∷ t)
+    go true e = refl
+    go false e = ap (λ (l : List ℕ). b ∷ l) e
+
+-- the line at a place, as a part of the text
+pub first-line : (w : List ℕ) (at e : ℕ) → e ≡ at + lineLength (drop at w) → firstLine (drop at w) ≡ take (e - at) (drop at w)
+first-line w at e q = let n : e - at ≡ lineLength (drop at w) = omega arith in rw n (first-taken (drop at w))
+
+-- letters and digits are no line feed
+pub small-not-feed : (b : ℕ) → small b ≡ true → b ≡ feed → ⊥
+small-not-feed b e f = omega (arith, small-low b e)
+
+pub digit-not-feed : (b : ℕ) → digit b ≡ true → b ≡ feed → ⊥
+unfolding digit
+digit-not-feed b e f = omega (arith, range-low 49 57 b e)
+
+-- what a line's judgement and its end make of each other
+pub end-bad : {good : Bool} (e : ℕ) → good ≡ false → Bad ≡ endIf good e
+end-bad e g = rw g
+
+pub end-good : {good : Bool} {i e : ℕ} → good ≡ true → i ≡ e → At i ≡ endIf good e
+end-good g p = rw (g, p)
+
+pub ends-bad : (good : Bool) (e : ℕ) {r : End} → r ≡ endIf good e → r ≡ Bad → good ≡ false
+ends-bad true e p q = let z : _≡_ {A = ℕ} 0 1 = cc in absurd (omega arith)
+ends-bad false e p q = refl
+
+pub ends-good : (good : Bool) (e : ℕ) {r : End} {i : ℕ} → r ≡ endIf good e → r ≡ At i → (good ≡ true) × (i ≡ e)
+ends-good true e p q = (refl, cc)
+ends-good false e p q = let z : _≡_ {A = ℕ} 0 1 = cc in absurd (omega arith)
+
 -- what is left to show of a pattern line after some of its bytes: letters and digits seen, and how many symbols
 unfoldable pub patternRest : Bool → Bool → Bool → Bool → ℕ → List ℕ → Bool
 patternRest opening afterDigit letters digits n line =
@@ -46,117 +108,199 @@ patternRest opening afterDigit letters digits n line =
 suc-right : (n k : ℕ) → n + suc k ≡ n + 1 + k
 suc-right n k = omega arith
 
-pub pattern-start : (w : List ℕ) → goodPattern w ≡ patternRest true false false false 0 (drop 0 w)
+pub pattern-start : (w : List ℕ) → goodPattern w ≡ patternRest true false false false 0 w
 unfolding goodPattern patternRest
 pattern-start w = let e : 0 + length (symbolsOf w) ≡ length (symbolsOf w) = omega arith in rw e
 
 module _ (w : List ℕ) (i : ℕ) (h : i < length w) (o a ls ds : Bool) (n : ℕ) where
-  pub pattern-letter : small (getD w i 0) ≡ true → patternRest o a ls ds n (drop i w) ≡ patternRest false false true ds (n + 1) (drop (i + 1) w)
+  pub pattern-letter : small (getD w i 0) ≡ true → patternRest o a ls ds n (firstLine (drop i w)) ≡ patternRest false false true ds (n + 1) (firstLine (drop (i + 1) w))
   unfolding patternRest patternForm anyOf
   pattern-letter e =
-      rw (cons-at w i h, symbols-keep (getD w i 0) (drop (i + 1) w) (small-symbol (getD w i 0) e), e, small-not-digit (getD w i 0) e, or-true ls, suc-right n)
+      rw (first-on w i h (small-not-feed (getD w i 0) e), symbols-keep (getD w i 0) (firstLine (drop (i + 1) w)) (small-symbol (getD w i 0) e), e, small-not-digit (getD w i 0) e, or-true ls, suc-right n)
 
-  pub pattern-digit : small (getD w i 0) ≡ false → digit (getD w i 0) ≡ true → a ≡ false → patternRest o a ls ds n (drop i w) ≡ patternRest false true ls true n (drop (i + 1) w)
-  unfolding patternRest patternForm anyOf
-  pattern-digit e d z =
-      rw (cons-at w i h, symbols-skip (getD w i 0) (drop (i + 1) w) (other-symbol (getD w i 0) e (digit-not-dot (getD w i 0) d)), e, d, z, or-true ds)
+  module _ (e : small (getD w i 0) ≡ false) where
+    pub pattern-digit : digit (getD w i 0) ≡ true → a ≡ false → patternRest o a ls ds n (firstLine (drop i w)) ≡ patternRest false true ls true n (firstLine (drop (i + 1) w))
+    unfolding patternRest patternForm anyOf
+    pattern-digit d z =
+        rw (first-on w i h (digit-not-feed (getD w i 0) d), symbols-skip (getD w i 0) (firstLine (drop (i + 1) w)) (other-symbol (getD w i 0) e (digit-not-dot (getD w i 0) d)), e, d, z, or-true ds)
 
-  pub pattern-digits : small (getD w i 0) ≡ false → digit (getD w i 0) ≡ true → a ≡ true → patternRest o a ls ds n (drop i w) ≡ false
-  unfolding patternRest patternForm
-  pattern-digits e d z = rw (cons-at w i h, e, d, z)
+    pub pattern-digits : digit (getD w i 0) ≡ true → a ≡ true → patternRest o a ls ds n (firstLine (drop i w)) ≡ false
+    unfolding patternRest patternForm
+    pattern-digits d z = rw (first-on w i h (digit-not-feed (getD w i 0) d), e, d, z)
 
-  pub pattern-dot : small (getD w i 0) ≡ false → digit (getD w i 0) ≡ false → getD w i 0 ≡ dot → (o || startsWith feed (drop (i + 1) w)) ≡ true
-      → patternRest o a ls ds n (drop i w) ≡ patternRest false false ls ds (n + 1) (drop (i + 1) w)
-  unfolding patternRest patternForm anyOf
-  pattern-dot e d z s =
-      rw (cons-at w i h, symbols-keep (getD w i 0) (drop (i + 1) w) (dot-symbol (getD w i 0) e z), e, d, eq-eqb (getD w i 0) dot z, s, suc-right n)
+    module _ (d : digit (getD w i 0) ≡ false) where
+      pub pattern-dot : getD w i 0 ≡ dot → (o || startsWith feed (drop (i + 1) w)) ≡ true
+          → patternRest o a ls ds n (firstLine (drop i w)) ≡ patternRest false false ls ds (n + 1) (firstLine (drop (i + 1) w))
+      unfolding patternRest patternForm anyOf
+      pattern-dot z s =
+          rw (
+            first-on w i h (λ f. omega (arith, f, z)),
+            symbols-keep (getD w i 0) (firstLine (drop (i + 1) w)) (dot-symbol (getD w i 0) e z),
+            e,
+            d,
+            eq-eqb (getD w i 0) dot z,
+            starts-first feed (drop (i + 1) w),
+            s,
+            suc-right n,
+          )
 
-  pub pattern-no-dot : small (getD w i 0) ≡ false → digit (getD w i 0) ≡ false → getD w i 0 ≡ dot → (o || startsWith feed (drop (i + 1) w)) ≡ false
-      → patternRest o a ls ds n (drop i w) ≡ false
-  unfolding patternRest patternForm
-  pattern-no-dot e d z s = rw (cons-at w i h, e, d, eq-eqb (getD w i 0) dot z, s)
+      pub pattern-no-dot : getD w i 0 ≡ dot → (o || startsWith feed (drop (i + 1) w)) ≡ false → patternRest o a ls ds n (firstLine (drop i w)) ≡ false
+      unfolding patternRest patternForm
+      pattern-no-dot z s = rw (first-on w i h (λ f. omega (arith, f, z)), e, d, eq-eqb (getD w i 0) dot z, starts-first feed (drop (i + 1) w), s)
 
-  pub pattern-other : small (getD w i 0) ≡ false → digit (getD w i 0) ≡ false → (getD w i 0 ≡ dot → ⊥) → (getD w i 0 ≡ feed → ⊥) → patternRest o a ls ds n (drop i w) ≡ false
-  unfolding patternRest patternForm
-  pattern-other e d z f = rw (cons-at w i h, e, d, ne-eqb (getD w i 0) dot z, ne-eqb (getD w i 0) feed f)
+      module _ (z : getD w i 0 ≡ dot → ⊥) where
+        pub pattern-other : (getD w i 0 ≡ feed → ⊥) → patternRest o a ls ds n (firstLine (drop i w)) ≡ false
+        unfolding patternRest patternForm
+        pattern-other f = rw (first-on w i h f, e, d, ne-eqb (getD w i 0) dot z, ne-eqb (getD w i 0) feed f)
 
-  pub nil-more : (i + 1 ≡ length w → ⊥) → isNil (drop (i + 1) w) ≡ false
-  unfolding isNil
-  nil-more m = rw (cons-at w (i + 1) (omega arith))
+        -- the line feed ends the line: what was seen decides
+        module _ (f : getD w i 0 ≡ feed) where
+          pattern-feed : patternRest o a ls ds n (firstLine (drop i w)) ≡ ((ls || false) && ((ds || false) && leb n patternLimit))
+          unfolding patternRest patternForm anyOf isNil symbolsOf
+          pattern-feed =
+              rw (
+                first-feed w i h f,
+                symbols-skip (getD w i 0) [] (other-symbol (getD w i 0) e z),
+                e,
+                d,
+                ne-eqb (getD w i 0) dot z,
+                eq-eqb (getD w i 0) feed f,
+                add-zero n,
+              )
 
-  pub pattern-more : small (getD w i 0) ≡ false → digit (getD w i 0) ≡ false → (getD w i 0 ≡ dot → ⊥) → getD w i 0 ≡ feed → (i + 1 ≡ length w → ⊥) → patternRest o a ls ds n (drop i w) ≡ false
-  unfolding patternRest patternForm
-  pattern-more e d z f m = rw (cons-at w i h, e, d, ne-eqb (getD w i 0) dot z, eq-eqb (getD w i 0) feed f, nil-more m)
+          pub pattern-letterless : not ls ≡ true → patternRest o a ls ds n (firstLine (drop i w)) ≡ false
+          pattern-letterless l = pattern-feed ∙ rw (not-true ls l)
 
-  -- the line feed is the last byte: what was seen decides
-  module _ (e : small (getD w i 0) ≡ false) (d : digit (getD w i 0) ≡ false) (z : getD w i 0 ≡ dot → ⊥) (f : getD w i 0 ≡ feed) (m : i + 1 ≡ length w) where
-    pattern-feed : patternRest o a ls ds n (drop i w) ≡ ((ls || false) && ((ds || false) && leb n patternLimit))
-    unfolding patternRest patternForm anyOf isNil symbolsOf
-    pattern-feed =
-        let k : length w ≤ i + 1 = omega arith in
-        rw (
-          cons-at w i h,
-          symbols-skip (getD w i 0) (drop (i + 1) w) (other-symbol (getD w i 0) e z),
-          drop-of-length-le w k,
-          e,
-          d,
-          ne-eqb (getD w i 0) dot z,
-          eq-eqb (getD w i 0) feed f,
-          add-zero n,
-        )
+          pub pattern-digitless : not ls ≡ false → not ds ≡ true → patternRest o a ls ds n (firstLine (drop i w)) ≡ false
+          pattern-digitless l g = pattern-feed ∙ rw (not-false ls l, not-true ds g)
 
-    pub pattern-letterless : not ls ≡ true → patternRest o a ls ds n (drop i w) ≡ false
-    pattern-letterless l = pattern-feed ∙ rw (not-true ls l)
+          pub pattern-long : not ls ≡ false → not ds ≡ false → patternLimit < n → patternRest o a ls ds n (firstLine (drop i w)) ≡ false
+          pattern-long l g k = pattern-feed ∙ rw (not-false ls l, not-false ds g, lt-leb n patternLimit k)
 
-    pub pattern-digitless : not ls ≡ false → not ds ≡ true → patternRest o a ls ds n (drop i w) ≡ false
-    pattern-digitless l g = pattern-feed ∙ rw (not-false ls l, not-true ds g)
+          pub pattern-whole : not ls ≡ false → not ds ≡ false → n ≤ patternLimit → patternRest o a ls ds n (firstLine (drop i w)) ≡ true
+          pattern-whole l g k = pattern-feed ∙ rw (not-false ls l, not-false ds g, le-leb n patternLimit k)
 
-    pub pattern-whole : not ls ≡ false → not ds ≡ false → patternRest o a ls ds n (drop i w) ≡ leb n patternLimit
-    pattern-whole l g = pattern-feed ∙ rw (not-false ls l, not-false ds g)
-
-pub pattern-end : (w : List ℕ) (i : ℕ) (o a ls ds : Bool) (n : ℕ) → length w ≤ i → patternRest o a ls ds n (drop i w) ≡ false
+pub pattern-end : (w : List ℕ) (i : ℕ) (o a ls ds : Bool) (n : ℕ) → length w ≤ i → patternRest o a ls ds n (firstLine (drop i w)) ≡ false
 unfolding patternRest patternForm
-pattern-end w i o a ls ds n h = rw (drop-of-length-le w h)
+pattern-end w i o a ls ds n h = rw (first-out w i h)
 
 -- the same for an exception line
 unfoldable pub exceptionRest : Bool → ℕ → List ℕ → Bool
 exceptionRest afterLetter n line = exceptionForm afterLetter line && leb (n + length (symbolsOf line)) wordLimit
 
-pub exception-start : (w : List ℕ) → goodException w ≡ exceptionRest false 0 (drop 0 w)
+exception-start : (w : List ℕ) → goodException w ≡ exceptionRest false 0 w
 unfolding goodException exceptionRest
 exception-start w = let e : 0 + length (symbolsOf w) ≡ length (symbolsOf w) = omega arith in rw e
 
 module _ (w : List ℕ) (i : ℕ) (h : i < length w) (a : Bool) (n : ℕ) where
-  pub exception-letter : small (getD w i 0) ≡ true → exceptionRest a n (drop i w) ≡ exceptionRest true (n + 1) (drop (i + 1) w)
+  exception-letter : small (getD w i 0) ≡ true → exceptionRest a n (firstLine (drop i w)) ≡ exceptionRest true (n + 1) (firstLine (drop (i + 1) w))
   unfolding exceptionRest exceptionForm
-  exception-letter e = rw (cons-at w i h, symbols-keep (getD w i 0) (drop (i + 1) w) (small-symbol (getD w i 0) e), e, suc-right n)
+  exception-letter e =
+      rw (first-on w i h (small-not-feed (getD w i 0) e), symbols-keep (getD w i 0) (firstLine (drop (i + 1) w)) (small-symbol (getD w i 0) e), e, suc-right n)
 
-  pub exception-lone : small (getD w i 0) ≡ false → a ≡ false → exceptionRest a n (drop i w) ≡ false
-  unfolding exceptionRest exceptionForm
-  exception-lone e z = rw (cons-at w i h, e, z)
+  module _ (e : small (getD w i 0) ≡ false) where
+    exception-lone : a ≡ false → exceptionRest a n (firstLine (drop i w)) ≡ false
+    unfolding exceptionRest exceptionForm firstLine
+    exception-lone z = rw (cons-at w i h) (go (eqb (getD w i 0) feed))
+      where
+        go : (f : Bool) → exceptionRest a n (cond f (getD w i 0 ∷ []) (getD w i 0 ∷ firstLine (drop (i + 1) w))) ≡ false
+        go true = rw (e, z)
+        go false = rw (e, z)
 
-  pub exception-hyphen : small (getD w i 0) ≡ false → a ≡ true → getD w i 0 ≡ hyphen → exceptionRest a n (drop i w) ≡ exceptionRest false n (drop (i + 1) w)
-  unfolding exceptionRest exceptionForm
-  exception-hyphen e z y =
-      rw (cons-at w i h, symbols-skip (getD w i 0) (drop (i + 1) w) (other-symbol (getD w i 0) e (λ d. omega (arith, d, y))), e, z, eq-eqb (getD w i 0) hyphen y)
+    module _ (z : a ≡ true) where
+      exception-hyphen : getD w i 0 ≡ hyphen → exceptionRest a n (firstLine (drop i w)) ≡ exceptionRest false n (firstLine (drop (i + 1) w))
+      unfolding exceptionRest exceptionForm
+      exception-hyphen y =
+          rw (
+            first-on w i h (λ f. omega (arith, f, y)),
+            symbols-skip (getD w i 0) (firstLine (drop (i + 1) w)) (other-symbol (getD w i 0) e (λ d. omega (arith, d, y))),
+            e,
+            z,
+            eq-eqb (getD w i 0) hyphen y,
+          )
 
-  pub exception-other : small (getD w i 0) ≡ false → a ≡ true → (getD w i 0 ≡ hyphen → ⊥) → (getD w i 0 ≡ feed → ⊥) → exceptionRest a n (drop i w) ≡ false
-  unfolding exceptionRest exceptionForm
-  exception-other e z y f = rw (cons-at w i h, e, z, ne-eqb (getD w i 0) hyphen y, ne-eqb (getD w i 0) feed f)
+      module _ (y : getD w i 0 ≡ hyphen → ⊥) where
+        exception-other : (getD w i 0 ≡ feed → ⊥) → exceptionRest a n (firstLine (drop i w)) ≡ false
+        unfolding exceptionRest exceptionForm
+        exception-other f = rw (first-on w i h f, e, z, ne-eqb (getD w i 0) hyphen y, ne-eqb (getD w i 0) feed f)
 
-  pub exception-more : small (getD w i 0) ≡ false → a ≡ true → (getD w i 0 ≡ hyphen → ⊥) → getD w i 0 ≡ feed → (i + 1 ≡ length w → ⊥) → exceptionRest a n (drop i w) ≡ false
-  unfolding exceptionRest exceptionForm
-  exception-more e z y f m = rw (cons-at w i h, e, z, ne-eqb (getD w i 0) hyphen y, eq-eqb (getD w i 0) feed f, nil-more w i h false false false false 0 m)
+        exception-feed : getD w i 0 ≡ feed → exceptionRest a n (firstLine (drop i w)) ≡ leb n wordLimit
+        unfolding exceptionRest exceptionForm isNil symbolsOf
+        exception-feed f =
+            rw (
+              first-feed w i h f,
+              symbols-skip (getD w i 0) [] (other-symbol (getD w i 0) e (λ d. omega (arith, d, f))),
+              e,
+              z,
+              ne-eqb (getD w i 0) hyphen y,
+              eq-eqb (getD w i 0) feed f,
+              add-zero n,
+            )
 
-  pub exception-feed : small (getD w i 0) ≡ false → a ≡ true → (getD w i 0 ≡ hyphen → ⊥) → getD w i 0 ≡ feed → i + 1 ≡ length w → exceptionRest a n (drop i w) ≡ leb n wordLimit
-  unfolding exceptionRest exceptionForm isNil symbolsOf
-  exception-feed e z y f m =
-      let k : length w ≤ i + 1 = omega arith in
-      rw (cons-at w i h, symbols-skip (getD w i 0) (drop (i + 1) w) (other-symbol (getD w i 0) e (λ d. omega (arith, d, f))), drop-of-length-le w k, e, z, ne-eqb (getD w i 0) hyphen y, eq-eqb (getD w i 0) feed f, add-zero n)
+        exception-long : getD w i 0 ≡ feed → wordLimit < n → exceptionRest a n (firstLine (drop i w)) ≡ false
+        exception-long f k = exception-feed f ∙ rw (lt-leb n wordLimit k)
 
-pub exception-end : (w : List ℕ) (i : ℕ) (a : Bool) (n : ℕ) → length w ≤ i → exceptionRest a n (drop i w) ≡ false
+        exception-whole : getD w i 0 ≡ feed → n ≤ wordLimit → exceptionRest a n (firstLine (drop i w)) ≡ true
+        exception-whole f k = exception-feed f ∙ rw (le-leb n wordLimit k)
+
+exception-end : (w : List ℕ) (i : ℕ) (a : Bool) (n : ℕ) → length w ≤ i → exceptionRest a n (firstLine (drop i w)) ≡ false
 unfolding exceptionRest exceptionForm
-exception-end w i a n h = rw (drop-of-length-le w h)
+exception-end w i a n h = rw (first-out w i h)
+
+-- What holds inside an exception line: where the letters in hand begin, how many hyphens there were, and what is left to show.
+pub record Lettered (text : List ℕ) (at run hyphens i : ℕ) : Type 0 where
+  pub begun : run ≤ i
+  pub counted : at + hyphens ≤ i
+  pub ends : at + lineLength (drop at text) ≡ i + lineLength (drop i text)
+  pub same : goodException (firstLine (drop at text)) ≡ exceptionRest (ltb run i) (i - at - hyphens) (firstLine (drop i text))
+
+pub lettered-start : (text : List ℕ) (at : ℕ) → Lettered text at at 0 at
+lettered-start text at =
+    let n : at - at - 0 ≡ 0 = omega arith in
+    record { begun = omega arith; counted = omega arith; ends = refl; same = exception-start (firstLine (drop at text)) ∙ rw (n, le-ltb at at (omega arith)) }
+
+module _ (text : List ℕ) (at run hyphens i : ℕ) (l : Lettered text at run hyphens i) where
+  pub lettered-out : length text ≤ i → goodException (firstLine (drop at text)) ≡ false
+  lettered-out h = l .same ∙ exception-end text i (ltb run i) (i - at - hyphens) h
+
+  module _ (h : i < length text) where
+    pub lettered-on : small (getD text i 0) ≡ true → Lettered text at run hyphens (i + 1)
+    lettered-on e =
+        let n : i + 1 - at - hyphens ≡ i - at - hyphens + 1 = omega (arith, l .counted) in
+        record {
+          begun = omega (arith, l .begun);
+          counted = omega (arith, l .counted);
+          ends = end-on at text i (l .ends) h (small-not-feed (getD text i 0) e);
+          same = l .same ∙ exception-letter text i h (ltb run i) (i - at - hyphens) e ∙ rw (n, lt-ltb run (i + 1) (omega (arith, l .begun)));
+        }
+
+    module _ (e : small (getD text i 0) ≡ false) where
+      pub lettered-lone : i ≡ run → goodException (firstLine (drop at text)) ≡ false
+      lettered-lone z = l .same ∙ exception-lone text i h (ltb run i) (i - at - hyphens) e (le-ltb run i (omega arith))
+
+      module _ (z : i ≡ run → ⊥) where
+        after : ltb run i ≡ true
+        after = lt-ltb run i (omega (arith, l .begun))
+
+        pub lettered-hyphen : getD text i 0 ≡ hyphen → Lettered text at (i + 1) (hyphens + 1) (i + 1)
+        lettered-hyphen y =
+            let n : i + 1 - at - (hyphens + 1) ≡ i - at - hyphens = omega (arith, l .counted) in
+            record {
+              begun = omega arith;
+              counted = omega (arith, l .counted);
+              ends = end-on at text i (l .ends) h (λ f. omega (arith, f, y));
+              same = l .same ∙ exception-hyphen text i h (ltb run i) (i - at - hyphens) e after y ∙ rw (n, le-ltb (i + 1) (i + 1) (omega arith));
+            }
+
+        module _ (y : getD text i 0 ≡ hyphen → ⊥) where
+          pub lettered-other : (getD text i 0 ≡ feed → ⊥) → goodException (firstLine (drop at text)) ≡ false
+          lettered-other f = l .same ∙ exception-other text i h (ltb run i) (i - at - hyphens) e after y f
+
+          pub lettered-long : getD text i 0 ≡ feed → wordLimit < i - at - hyphens → goodException (firstLine (drop at text)) ≡ false
+          lettered-long f k = l .same ∙ exception-long text i h (ltb run i) (i - at - hyphens) e after y f k
+
+          pub lettered-whole : getD text i 0 ≡ feed → i - at - hyphens ≤ wordLimit → goodException (firstLine (drop at text)) ≡ true
+          lettered-whole f k = l .same ∙ exception-whole text i h (ltb run i) (i - at - hyphens) e after y f k
 
 -- the order of two lines, at the symbols that the code stands at
 unfoldable pub linesBefore : List ℕ → ℕ → List ℕ → ℕ → Bool
@@ -165,6 +309,28 @@ linesBefore a i b j = before (symbolsOf (drop i a)) (symbolsOf (drop j b))
 pub order-start : (a b : List ℕ) → before (symbolsOf a) (symbolsOf b) ≡ linesBefore a 0 b 0
 unfolding linesBefore
 order-start a b = refl
+
+pub order-left : (a b : List ℕ) (i : ℕ) {r : Bool} → r ≡ linesBefore a i b i → r ≡ before (symbolsOf (drop i a)) (symbolsOf (drop i b))
+unfolding linesBefore
+order-left a b i e = e
+
+pub order-at : (a b : List ℕ) (i : ℕ) {r : Bool} → r ≡ before (symbolsOf (drop i a)) (symbolsOf (drop i b)) → r ≡ linesBefore a i b i
+unfolding linesBefore
+order-at a b i e = e
+
+-- two lines with one byte more in common
+pub order-same : (a b : List ℕ) (i : ℕ) → i < length a → i < length b → getD a i 0 ≡ getD b i 0 → linesBefore a i b i ≡ linesBefore a (i + 1) b (i + 1)
+order-same a b i h k e = unfold linesBefore symbolsOf in rw (cons-at a i h, cons-at b i k, e) (go (symbolOf (getD b i 0)) (symbolsOf (drop (i + 1) a)) (symbolsOf (drop (i + 1) b)))
+  where
+    more : (s : ℕ) (x y : List ℕ) → before (s ∷ x) (s ∷ y) ≡ before x y
+    more s x y = unfold before in rw (le-ltb s s (omega arith), eq-eqb s s refl)
+
+    go : (s : ℕ) (x y : List ℕ) → before (cond (eqb s 0) x (s ∷ x)) (cond (eqb s 0) y (s ∷ y)) ≡ before x y
+    go s x y = by (eqb s 0)
+      where
+        by : (z : Bool) → before (cond z x (s ∷ x)) (cond z y (s ∷ y)) ≡ before x y
+        by true = refl
+        by false = more s x y
 
 before-nil : (l : List ℕ) → before l [] ≡ false
 unfolding before

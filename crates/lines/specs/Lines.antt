@@ -23,6 +23,11 @@ unfoldable pub lineLength : List ℕ → ℕ
 lineLength [] = 0
 lineLength (b ∷ t) = cond (eqb b feed) 1 (suc (lineLength t))
 
+-- A text's first line, its line feed included.
+unfoldable pub firstLine : List ℕ → List ℕ
+firstLine [] = []
+firstLine (b ∷ t) = cond (eqb b feed) (b ∷ []) (b ∷ firstLine t)
+
 unfoldable pub isNil : List ℕ → Bool
 isNil [] = true
 isNil (b ∷ t) = false

@@ -1,11 +1,18 @@
 // Single lines of a text list: where one ends, whether it is good as it stands, and whether it ascends from the one above.
 ghost use mathlib.Core.Path.{_≡_};
 ghost use mathlib.Core.Bool.{_||_};
-ghost use Prim.Native.Nat.{_+_};
-ghost use lib.ListN.{drop};
+ghost use Prim.Native.Nat.{_+_, _≤_};
+ghost use lib.ListN.{length, drop};
 ghost use Rattle.words.specs.Symbols.{symbolsOf, feed};
-ghost use Rattle.lines.specs.Lines.{lineLength, startsWith, goodPattern, goodException};
+ghost use Rattle.lines.specs.Lines.{lineLength, firstLine, startsWith, goodPattern, goodException};
 ghost use Rattle.lines.specs.Order.{before};
+ghost use Rattle.lines.specs.Ends.{endIf};
+
+// Where a line ends that is good as it stands, or that it is bad.
+pub enum End {
+    At(usize),
+    Bad,
+}
 
 // Where the line that begins at a place ends: past its line feed, or at the text's end.
 pub fn line_end(text: &[u8], at: usize) -> usize
@@ -22,31 +29,31 @@ pub fn line_end(text: &[u8], at: usize) -> usize
     i
 }
 
-// May a "." stand here: as the first byte, or with the line feed right after it, at i?
-fn dot_fits(opening: bool, line: &[u8], i: usize) -> bool
-    ensures { λ r. ⌜ r ≡ (opening || startsWith feed (drop i (now (line .entry)))) ⌝ }
+// May a "." stand here: as the first byte of its line, or with the line feed right after it, at i?
+fn dot_fits(opening: bool, text: &[u8], i: usize) -> bool
+    ensures { λ r. ⌜ r ≡ (opening || startsWith feed (drop i (now (text .entry)))) ⌝ }
 {
     if opening {
         return true;
     }
-    if line.len() <= i {
+    if text.len() <= i {
         return false;
     }
-    line[i] == 10
+    text[i] == 10
 }
 
-// A pattern line with its line feed, judged by itself.
-pub fn is_good_pattern(line: &[u8]) -> bool
-    ensures { λ r. ⌜ r ≡ goodPattern (now (line .entry)) ⌝ }
+// The line that begins at a place, judged as a pattern line by itself: its form and its end are found in one pass.
+pub fn pattern_end(text: &[u8], at: usize) -> End
+    ensures { λ r. ⌜ r ≡ endIf (goodPattern (firstLine (drop at (now (text .entry))))) (at + lineLength (drop at (now (text .entry)))) ⌝ }
 {
     let mut opening = true;
     let mut after_digit = false;
     let mut letters = false;
     let mut digits = false;
     let mut count: usize = 0;
-    let mut i = 0;
-    while i < line.len() {
-        let b = line[i];
+    let mut i = at;
+    while i < text.len() {
+        let b = text[i];
         i += 1;
         if words::is_small(b) {
             letters = true;
@@ -55,76 +62,96 @@ pub fn is_good_pattern(line: &[u8]) -> bool
             opening = false;
         } else if words::is_digit(b) {
             if after_digit {
-                return false;
+                return End::Bad;
             }
             digits = true;
             after_digit = true;
             opening = false;
         } else if b == 46 {
-            if !dot_fits(opening, line, i) {
-                return false;
+            if !dot_fits(opening, text, i) {
+                return End::Bad;
             }
             count += 1;
             after_digit = false;
             opening = false;
         } else {
             if b != 10 {
-                return false;
-            }
-            if i != line.len() {
-                return false;
+                return End::Bad;
             }
             if !letters {
-                return false;
+                return End::Bad;
             }
             if !digits {
-                return false;
+                return End::Bad;
             }
-            return count <= base::PATTERN_LIMIT;
+            if base::PATTERN_LIMIT < count {
+                return End::Bad;
+            }
+            return End::At(i);
         }
     }
-    false
+    End::Bad
 }
 
-// An exception line with its line feed, judged by itself.
-pub fn is_good_exception(line: &[u8]) -> bool
-    ensures { λ r. ⌜ r ≡ goodException (now (line .entry)) ⌝ }
+// The same for an exception line. Most bytes are letters, and nothing is kept of them: `run` is where the letters in hand begin, and a
+// line's letters are its bytes without the hyphens.
+pub fn exception_end(text: &[u8], at: usize) -> End
+    ensures { λ r. ⌜ r ≡ endIf (goodException (firstLine (drop at (now (text .entry))))) (at + lineLength (drop at (now (text .entry)))) ⌝ }
 {
-    let mut after_letter = false;
-    let mut count: usize = 0;
-    let mut i = 0;
-    while i < line.len() {
-        let b = line[i];
-        i += 1;
+    let mut run = at;
+    let mut hyphens: usize = 0;
+    let mut i = at;
+    while i < text.len() {
+        let b = text[i];
         if words::is_small(b) {
-            count += 1;
-            after_letter = true;
+            i += 1;
         } else {
-            if !after_letter {
-                return false;
+            if i == run {
+                return End::Bad; // no letter stands before
             }
+            let letters = i - at - hyphens;
+            i += 1;
             if b == 45 {
-                after_letter = false;
+                run = i;
+                hyphens += 1;
             } else {
                 if b != 10 {
-                    return false;
+                    return End::Bad;
                 }
-                if i != line.len() {
-                    return false;
+                if base::WORD_LIMIT < letters {
+                    return End::Bad;
                 }
-                return count <= base::WORD_LIMIT;
+                return End::At(i);
             }
         }
     }
-    false
+    End::Bad
+}
+
+// How many leading bytes two lines share: their order is that of what is left of them.
+fn same_bytes(above: &[u8], line: &[u8]) -> usize
+    ensures { λ r. ⌜ (r ≤ length (now (above .entry))) × (r ≤ length (now (line .entry))) × (before (symbolsOf (now (above .entry))) (symbolsOf (now (line .entry))) ≡ before (symbolsOf (drop r (now (above .entry)))) (symbolsOf (drop r (now (line .entry))))) ⌝ }
+{
+    let mut i = 0;
+    while i < above.len() {
+        if line.len() <= i {
+            return i;
+        }
+        if above[i] != line[i] {
+            return i;
+        }
+        i += 1;
+    }
+    i
 }
 
 // Do the symbols of a line ascend strictly from those of the line above?
 pub fn ascends(above: &[u8], line: &[u8]) -> bool
     ensures { λ r. ⌜ r ≡ before (symbolsOf (now (above .entry))) (symbolsOf (now (line .entry))) ⌝ }
 {
-    let mut i = 0;
-    let mut j = 0;
+    let same = same_bytes(above, line);
+    let mut i = same;
+    let mut j = same;
     while j < line.len() {
         let y = words::symbol_of(line[j]);
         if y == 0 {

@@ -1,8 +1,8 @@
 -- Laws about whole lists: one for each way through the code.
 use Prim.Native.Nat.{ℕ, _+_, _-_, _≤_, _<_}
-use mathlib.Core.Bool.{Bool, true, false, cond, _&&_}
-use mathlib.Core.List.{List, [], _∷_}
-use mathlib.Core.Path.{_≡_, refl, sym, _∙_, ap}
+use mathlib.Core.Bool.{true, false}
+use mathlib.Core.List.{List}
+use mathlib.Core.Path.{_≡_, refl}
 use native.Mathlib.Omega.{arith}
 use borrow.Author.Tests.{lt-ltb, le-ltb}
 use lib.ListN.{length, take, drop, drop-of-length-le}
@@ -12,22 +12,24 @@ use Rattle.base.specs.declared.Check.the-variants.{Fine, Refused}
 use Rattle.base.specs.declared.Ground.{Ground}
 use Rattle.base.specs.declared.Ground.the-variants.{TextLong}
 use Rattle.words.specs.Symbols.{symbolsOf}
-use Rattle.lines.specs.Lines.{cut, lineLength, goodPattern, goodException}
+use Rattle.lines.specs.Lines.{cut, lineLength, firstLine, goodPattern, goodException}
+use Rattle.lines.specs.Ends.{endIf}
+use Rattle.lines.specs.declared.End.{End}
+use Rattle.lines.specs.declared.End.the-variants.{At, Bad}
 use Rattle.lines.specs.Order.{before}
-use Rattle.lines.proofs.Laws.{cut-line, line-size, line-starts, line-ends}
+use Rattle.lines.proofs.Laws.{cut-line, line-size, line-starts, first-line, ends-bad, ends-good}
 use Rattle.lists.specs.Lists.{goodLine, firstBad, judgeLines, judgeSize, badPattern, badException, judgePatterns, judgeExceptions, judgeLists}
 use Rattle.lists.specs.declared.Form.{Form}
 use Rattle.lists.specs.declared.Form.the-variants.{Patterns, Exceptions}
-use Rattle.lists.specs.declared.Lines.{Lines}
 use Rattle.lists.specs.declared.Lines.the-variants.{Good, BadAt}
 
-pub pattern-form : {form : Form} {r : Bool} (l : List ℕ) → r ≡ goodPattern l → form ≡ Patterns → r ≡ goodLine form l
+pub pattern-form : {form : Form} (l : List ℕ) (e : ℕ) {r : End} → r ≡ endIf (goodPattern l) e → form ≡ Patterns → r ≡ endIf (goodLine form l) e
 unfolding goodLine
-pattern-form l e f = rw f e
+pattern-form l e p f = rw f p
 
-pub exception-form : {form : Form} {r : Bool} (l : List ℕ) → r ≡ goodException l → form ≡ Exceptions → r ≡ goodLine form l
+pub exception-form : {form : Form} (l : List ℕ) (e : ℕ) {r : End} → r ≡ endIf (goodException l) e → form ≡ Exceptions → r ≡ endIf (goodLine form l) e
 unfolding goodLine
-exception-form l e f = rw f e
+exception-form l e p f = rw f p
 
 -- the loop over the lines
 pub lines-start : (form : Form) (w : List ℕ) → judgeLines form w ≡ firstBad form 0 (take (0 - 0) (drop 0 w)) (cut (drop 0 w))
@@ -38,22 +40,33 @@ pub lines-end : (form : Form) (w : List ℕ) (at : ℕ) (above : List ℕ) → l
 unfolding firstBad cut
 lines-end form w at above h = rw (drop-of-length-le w h)
 
-module _ (form : Form) (w : List ℕ) (at e : ℕ) (above : List ℕ) (h : at < length w) (q : e ≡ at + lineLength (drop at w)) where
-  pub line-bad : goodLine form (take (e - at) (drop at w)) ≡ false → firstBad form at above (cut (drop at w)) ≡ BadAt at
-  unfolding firstBad
-  line-bad g = rw (cut-line w at e h q, g)
+-- what the search for a good line's end says of the line
+module _ (form : Form) (w : List ℕ) (at : ℕ) {r : End} (p : r ≡ endIf (goodLine form (firstLine (drop at w))) (at + lineLength (drop at w))) where
+  pub found-end : {e : ℕ} → r ≡ At e → e ≡ at + lineLength (drop at w)
+  found-end q = ends-good (goodLine form (firstLine (drop at w))) _ p q .1
 
-  pub line-low : goodLine form (take (e - at) (drop at w)) ≡ true → before (symbolsOf above) (symbolsOf (take (e - at) (drop at w))) ≡ false
-      → firstBad form at above (cut (drop at w)) ≡ BadAt at
-  unfolding firstBad
-  line-low g b = rw (cut-line w at e h q, g, b)
+  found-good : {e : ℕ} → r ≡ At e → goodLine form (take (e - at) (drop at w)) ≡ true
+  found-good {e} q = rw (first-line w at e (found-end q)) at (ends-good (goodLine form (firstLine (drop at w))) _ p q .0)
 
-  pub line-good : goodLine form (take (e - at) (drop at w)) ≡ true → before (symbolsOf above) (symbolsOf (take (e - at) (drop at w))) ≡ true
-      → firstBad form at above (cut (drop at w)) ≡ firstBad form e (take (e - at) (drop at w)) (cut (drop e w))
-  unfolding firstBad
-  line-good g b =
-      let s : at + length (take (e - at) (drop at w)) ≡ e = omega (arith, line-size w at e h q, line-starts w at e h q) in
-      rw (cut-line w at e h q, g, b, s)
+  module _ (above : List ℕ) (h : at < length w) where
+    pub line-bad : r ≡ Bad → firstBad form at above (cut (drop at w)) ≡ BadAt at
+    unfolding firstBad
+    line-bad q =
+        let s : at + lineLength (drop at w) ≡ at + lineLength (drop at w) = refl in
+        let g = rw (first-line w at _ s) at (ends-bad (goodLine form (firstLine (drop at w))) _ p q) in
+        rw (cut-line w at _ h s, g)
+
+    module _ {e : ℕ} (q : r ≡ At e) where
+      pub line-low : before (symbolsOf above) (symbolsOf (take (e - at) (drop at w))) ≡ false → firstBad form at above (cut (drop at w)) ≡ BadAt at
+      unfolding firstBad
+      line-low b = rw (cut-line w at e h (found-end q), found-good q, b)
+
+      pub line-good : before (symbolsOf above) (symbolsOf (take (e - at) (drop at w))) ≡ true
+          → firstBad form at above (cut (drop at w)) ≡ firstBad form e (take (e - at) (drop at w)) (cut (drop e w))
+      unfolding firstBad
+      line-good b =
+          let s : at + length (take (e - at) (drop at w)) ≡ e = omega (arith, line-size w at e h (found-end q), line-starts w at e h (found-end q)) in
+          rw (cut-line w at e h (found-end q), found-good q, b, s)
 
 pub size-over : (limit : ℕ) (w : List ℕ) → limit < length w → Refused TextLong ≡ judgeSize limit w
 unfolding judgeSize

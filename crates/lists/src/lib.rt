@@ -1,7 +1,12 @@
 // Whole text lists: the first bad line, and the grounds 8, 7 and 6.
 use base::Check;
 use base::Ground;
+use lines::End;
 ghost use mathlib.Core.Path.{_≡_};
+ghost use Prim.Native.Nat.{_+_};
+ghost use lib.ListN.{drop};
+ghost use Rattle.lines.specs.Lines.{lineLength, firstLine};
+ghost use Rattle.lines.specs.Ends.{endIf};
 ghost use Rattle.lists.specs.Lists.{goodLine, judgeLines, judgeSize, badPattern, badException, judgePatterns, judgeExceptions, judgeLists};
 
 // What the lines of a list are.
@@ -16,12 +21,13 @@ pub enum Lines {
     BadAt(usize),
 }
 
-pub fn is_good_line(form: Form, line: &[u8]) -> bool
-    ensures { λ r. ⌜ r ≡ goodLine form (now (line .entry)) ⌝ }
+// Where the line that begins at a place ends, if it is good as it stands.
+fn good_end(form: Form, text: &[u8], at: usize) -> End
+    ensures { λ r. ⌜ r ≡ endIf (goodLine form (firstLine (drop at (now (text .entry))))) (at + lineLength (drop at (now (text .entry)))) ⌝ }
 {
     match form {
-        Form::Patterns => lines::is_good_pattern(line),
-        Form::Exceptions => lines::is_good_exception(line),
+        Form::Patterns => lines::pattern_end(text, at),
+        Form::Exceptions => lines::exception_end(text, at),
     }
 }
 
@@ -32,10 +38,10 @@ pub fn judge_lines(form: Form, text: &[u8]) -> Lines
     let mut above = 0;
     let mut at = 0;
     while at < text.len() {
-        let end = lines::line_end(text, at);
-        if !is_good_line(form, &text[at..end]) {
-            return Lines::BadAt(at);
-        }
+        let found = good_end(form, text, at);
+        let End::At(end) = found else {
+            return Lines::BadAt(at); // bad as it stands
+        };
         if !lines::ascends(&text[above..at], &text[at..end]) {
             return Lines::BadAt(at);
         }

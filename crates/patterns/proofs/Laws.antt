@@ -4,14 +4,15 @@ use mathlib.Core.Bool.{Bool, true, false, cond}
 use mathlib.Core.List.{List, [], _∷_}
 use mathlib.Core.Path.{_≡_, refl, sym, _∙_, ap}
 use native.Mathlib.Omega.{arith}
-use borrow.Author.Tests.{eq-eqb, ne-eqb}
+use borrow.Author.Tests.{eq-eqb, ne-eqb, eqb-true}
 use lib.Dec.{eqb}
 use lib.ListN.{length, getD, drop, drop-of-length-le}
-use Rattle.base.proofs.Lists.{cons-at}
-use Rattle.words.specs.Symbols.{digit, symbolOf, symbolsOf}
-use Rattle.words.proofs.Laws.{symbols-skip, symbols-keep}
+use Rattle.base.proofs.Lists.{cons-at, never}
+use Rattle.words.specs.Symbols.{small, digit, symbolOf, symbolsOf}
+use Rattle.words.proofs.Laws.{small-not-digit, other-symbol, digit-not-dot, symbols-skip, symbols-keep}
 use Rattle.liang.specs.Patterns.{levelsFrom}
 use Rattle.patterns.specs.Common.{common}
+use Rattle.patterns.specs.Post.{Parts}
 
 -- what is left of a line's symbols
 module _ (l : List ℕ) (i : ℕ) {s : ℕ} (h : i < length l) (p : s ≡ symbolOf (getD l i 0)) where
@@ -48,6 +49,30 @@ pub levels-end : (l : List ℕ) (i level : ℕ) → length l ≤ i → levelsFro
 unfolding levelsFrom
 levels-end l i level h = rw (drop-of-length-le l h)
 
+-- a digit is no symbol
+pub digit-symbol : (b : ℕ) → digit b ≡ true → eqb (symbolOf b) 0 ≡ true
+digit-symbol b d = go (small b) refl
+  where
+    go : (z : Bool) → small b ≡ z → eqb (symbolOf b) 0 ≡ true
+    go true p = never (sym (small-not-digit b p) ∙ d)
+    go false p = other-symbol b p (digit-not-dot b d)
+
+pub rest-digit : (l : List ℕ) (i : ℕ) → i < length l → digit (getD l i 0) ≡ true → symbolsOf (drop i l) ≡ symbolsOf (drop (i + 1) l)
+rest-digit l i h d = rest-skip l i h refl (eqb-true (symbolOf (getD l i 0)) 0 (digit-symbol (getD l i 0) d))
+
+-- one level more than symbols
+pub line-levels : (level : ℕ) (line : List ℕ) → length (levelsFrom level line) ≡ suc (length (symbolsOf line))
+unfolding levelsFrom symbolsOf
+line-levels level [] = refl
+line-levels level (b ∷ t) = go (digit b) refl (eqb (symbolOf b) 0) refl (λ l. line-levels l t)
+  where
+    go : (d : Bool) → digit b ≡ d → (z : Bool) → eqb (symbolOf b) 0 ≡ z → ((l : ℕ) → length (levelsFrom l t) ≡ suc (length (symbolsOf t)))
+        → length (cond d (levelsFrom (b - 48) t) (cond z (levelsFrom level t) (level ∷ levelsFrom 0 t))) ≡ suc (length (cond z (symbolsOf t) (symbolOf b ∷ symbolsOf t)))
+    go true p true q next = next (b - 48)
+    go true p false q next = never (sym q ∙ digit-symbol b p)
+    go false p true q next = next level
+    go false p false q next = ap suc (next 0)
+
 -- what two lines share
 pub common-none : (xs : List ℕ) → common xs [] ≡ 0
 unfolding common
@@ -62,37 +87,70 @@ pub common-agrees : (x y : ℕ) (xs ys : List ℕ) → x ≡ y → common (x ∷
 unfolding common
 common-agrees x y xs ys h = rw (eq-eqb x y h)
 
--- the loop of `shared`: what is counted, and what is left to share
+-- the loop of `part_lines`: what is left to share, and the first line's symbol behind it
 unfoldable pub sharedFrom : List ℕ → ℕ → List ℕ → ℕ → ℕ
 sharedFrom a i b j = common (symbolsOf (drop i a)) (symbolsOf (drop j b))
 
-pub shared-start : (a b : List ℕ) → common (symbolsOf a) (symbolsOf b) ≡ 0 + sharedFrom a 0 b 0
-unfolding sharedFrom
-shared-start a b = omega arith
+unfoldable pub nextFrom : List ℕ → ℕ → List ℕ → ℕ → ℕ
+nextFrom a i b j = getD (symbolsOf (drop i a)) (sharedFrom a i b j) 0
 
-pub shared-end : (a : List ℕ) (i : ℕ) (b : List ℕ) (j : ℕ) → length a ≤ i → sharedFrom a i b j ≡ 0
-unfolding sharedFrom common
-shared-end a i b j h = rw (rest-end a i h)
+-- what is counted, and what is left
+pub record Parted (a : List ℕ) (i : ℕ) (b : List ℕ) (j count : ℕ) : Type 0 where
+  pub shares : common (symbolsOf a) (symbolsOf b) ≡ count + sharedFrom a i b j
+  pub follows : getD (symbolsOf a) (common (symbolsOf a) (symbolsOf b)) 0 ≡ nextFrom a i b j
 
-module _ (a : List ℕ) (i : ℕ) (b : List ℕ) (j : ℕ) {x : ℕ} (h : i < length a) (p : x ≡ symbolOf (getD a i 0)) where
-  pub shared-skip : x ≡ 0 → sharedFrom a i b j ≡ sharedFrom a (i + 1) b j
-  unfolding sharedFrom
-  shared-skip e = rw (rest-skip a i h p e)
+pub part-start : (a b : List ℕ) → Parted a 0 b 0 0
+unfolding sharedFrom nextFrom
+part-start a b = record { shares = omega arith; follows = refl }
 
-  pub shared-short : (x ≡ 0 → ⊥) → length b ≤ j → sharedFrom a i b j ≡ 0
-  unfolding sharedFrom
-  shared-short e k = rw (rest-end b j k) (common-none (symbolsOf (drop i a)))
+-- nothing more is shared
+part-done : (a : List ℕ) (i : ℕ) (b : List ℕ) (j count : ℕ) {s : ℕ} → Parted a i b j count → sharedFrom a i b j ≡ 0 → s ≡ getD (symbolsOf (drop i a)) 0 0
+    → Parts (symbolsOf a) (symbolsOf b) count s
+unfolding nextFrom
+part-done a i b j count p z e = record { count = omega (arith, p .shares); next = e ∙ sym (p .follows ∙ ap (λ (k : ℕ). getD (symbolsOf (drop i a)) k 0) z) }
 
-  module _ (e : x ≡ 0 → ⊥) {y : ℕ} (k : j < length b) (q : y ≡ symbolOf (getD b j 0)) where
-    pub shared-skip-right : y ≡ 0 → sharedFrom a i b j ≡ sharedFrom a i b (j + 1)
-    unfolding sharedFrom
-    shared-skip-right d = rw (rest-skip b j k q d)
+pub part-end : (a : List ℕ) (i : ℕ) (b : List ℕ) (j count : ℕ) → Parted a i b j count → length a ≤ i → Parts (symbolsOf a) (symbolsOf b) count 0
+part-end a i b j count p h = part-done a i b j count p none (rw (rest-end a i h))
+  where
+    none : sharedFrom a i b j ≡ 0
+    none = unfold sharedFrom common in rw (rest-end a i h)
 
-    pub shared-differs : (y ≡ 0 → ⊥) → (x ≡ y → ⊥) → sharedFrom a i b j ≡ 0
-    unfolding sharedFrom
-    shared-differs d n = rw (rest-keep a i h p e, rest-keep b j k q d) (common-differs x y (symbolsOf (drop (i + 1) a)) (symbolsOf (drop (j + 1) b)) n)
+module _ (a : List ℕ) (i : ℕ) (b : List ℕ) (j count : ℕ) (w : Parted a i b j count) {x : ℕ} (h : i < length a) (p : x ≡ symbolOf (getD a i 0)) where
+  pub part-skip : x ≡ 0 → Parted a (i + 1) b j count
+  unfolding sharedFrom nextFrom
+  part-skip e =
+      let r = rest-skip a i h p e in
+      record { shares = w .shares ∙ rw r; follows = w .follows ∙ rw r }
 
-    pub shared-agrees : (y ≡ 0 → ⊥) → x ≡ y → sharedFrom a i b j ≡ 1 + sharedFrom a (i + 1) b (j + 1)
-    unfolding sharedFrom
-    shared-agrees d n =
-        rw (rest-keep a i h p e, rest-keep b j k q d) (common-agrees x y (symbolsOf (drop (i + 1) a)) (symbolsOf (drop (j + 1) b)) n ∙ omega arith)
+  module _ (e : x ≡ 0 → ⊥) where
+    first : x ≡ getD (symbolsOf (drop i a)) 0 0
+    first = rw (rest-keep a i h p e)
+
+    pub part-short : length b ≤ j → Parts (symbolsOf a) (symbolsOf b) count x
+    part-short k = part-done a i b j count w none first
+      where
+        none : sharedFrom a i b j ≡ 0
+        none = unfold sharedFrom in rw (rest-end b j k) (common-none (symbolsOf (drop i a)))
+
+    module _ {y : ℕ} (k : j < length b) (q : y ≡ symbolOf (getD b j 0)) where
+      pub part-skip-right : y ≡ 0 → Parted a i b (j + 1) count
+      unfolding sharedFrom nextFrom
+      part-skip-right d =
+          let r = rest-skip b j k q d in
+          record { shares = w .shares ∙ rw r; follows = w .follows ∙ rw r }
+
+      pub part-differs : (y ≡ 0 → ⊥) → (x ≡ y → ⊥) → Parts (symbolsOf a) (symbolsOf b) count x
+      part-differs d n = part-done a i b j count w none first
+        where
+          none : sharedFrom a i b j ≡ 0
+          none = unfold sharedFrom in rw (rest-keep a i h p e, rest-keep b j k q d) (common-differs x y (symbolsOf (drop (i + 1) a)) (symbolsOf (drop (j + 1) b)) n)
+
+      pub part-agrees : (y ≡ 0 → ⊥) → x ≡ y → Parted a (i + 1) b (j + 1) (count + 1)
+      unfolding nextFrom
+      part-agrees d n = record { shares = omega (arith, w .shares, one); follows = w .follows ∙ ap (getD-at (symbolsOf (drop i a))) one ∙ rw (rest-keep a i h p e) }
+        where
+          getD-at : List ℕ → ℕ → ℕ
+          getD-at l m = getD l m 0
+
+          one : sharedFrom a i b j ≡ suc (sharedFrom a (i + 1) b (j + 1))
+          one = unfold sharedFrom in rw (rest-keep a i h p e, rest-keep b j k q d) (common-agrees x y (symbolsOf (drop (i + 1) a)) (symbolsOf (drop (j + 1) b)) n)

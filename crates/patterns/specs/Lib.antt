@@ -1,2 +1,3 @@
 pub mod Common
 pub mod Next
+pub mod Post

@@ -7,6 +7,7 @@ ghost use Rattle.lines.specs.Lines.{cut};
 ghost use Rattle.words.specs.Symbols.{symbolsOf};
 ghost use Rattle.liang.specs.Patterns.{levelsFrom, patternOf};
 ghost use Rattle.patterns.specs.Common.{common};
+ghost use Rattle.patterns.specs.Post.{Parts};
 ghost use Rattle.patterns.specs.Next.{nextMask};
 
 // How many symbols a line has.
@@ -73,7 +74,7 @@ pub fn level_at(line: &[u8], gap: usize) -> u8
 }
 
 // The number that a digit stands for.
-fn digit_value(b: u8) -> u8
+pub fn digit_value(b: u8) -> u8
     ensures { λ r. ⌜ r ≡ b - 48 ⌝ }
 {
     if b < 48 {
@@ -82,9 +83,15 @@ fn digit_value(b: u8) -> u8
     b - 48
 }
 
-// How many leading symbols two lines share.
-pub fn shared(a: &[u8], b: &[u8]) -> usize
-    ensures { λ r. ⌜ r ≡ common (symbolsOf (now (a .entry))) (symbolsOf (now (b .entry))) ⌝ }
+// Where two lines part: how many leading symbols they share, and the first one's next symbol, 0 where it has none.
+pub struct Parting {
+    pub shared: usize,
+    pub symbol: u8,
+}
+
+// Where two lines part.
+pub fn part_lines(a: &[u8], b: &[u8]) -> Parting
+    ensures { λ r. ⌜ Parts (symbolsOf (now (a .entry))) (symbolsOf (now (b .entry))) (r .shared) (r .symbol) ⌝ }
 {
     let mut count: usize = 0;
     let mut i = 0;
@@ -95,14 +102,20 @@ pub fn shared(a: &[u8], b: &[u8]) -> usize
             i += 1;
         } else {
             if b.len() <= j {
-                return count;
+                return Parting {
+                    shared: count,
+                    symbol: x,
+                };
             }
             let y = words::symbol_of(b[j]);
             if y == 0 {
                 j += 1;
             } else {
                 if x != y {
-                    return count;
+                    return Parting {
+                        shared: count,
+                        symbol: x,
+                    };
                 }
                 count += 1;
                 i += 1;
@@ -110,7 +123,18 @@ pub fn shared(a: &[u8], b: &[u8]) -> usize
             }
         }
     }
-    count
+    Parting {
+        shared: count,
+        symbol: 0,
+    }
+}
+
+// How many leading symbols two lines share.
+pub fn shared(a: &[u8], b: &[u8]) -> usize
+    ensures { λ r. ⌜ r ≡ common (symbolsOf (now (a .entry))) (symbolsOf (now (b .entry))) ⌝ }
+{
+    let at = part_lines(a, b);
+    at.shared
 }
 
 // A mark in a mask, where it has that place.

@@ -17,7 +17,7 @@ use Rattle.hyphenation.specs.Calls.{breaksSheet, breaksLooks, wordAnswer, WordB
 use Rattle.hyphenation.specs.declared.Answer.{Answer}
 use Rattle.hyphenation.specs.declared.Answer.the-variants as answers
 use Rattle.hyphenation.proofs.Laws.{sheet-length}
-use Rattle.hyphenation.proofs.Calls.{word-fits}
+use Rattle.words.proofs.Laws.{word-fits}
 use Rattle.hyphenation.proofs.Theorems.{finding}
 use Rattle.report.specs.Put.{Put}
 use Rattle.report.specs.Report.{question, lineFeed, lineLimit, lastDigit, digits, letterWith, hyphenated, field, listField, refusalLine, Reports, counted, wordsLabel, refusedLabel, probesLabel, sumsLine}

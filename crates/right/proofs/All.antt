@@ -32,6 +32,12 @@ unfolding allFrom
 all-same f g k zero h = refl
 all-same f g k (suc n) h = rw (h k (omega arith) (omega arith), all-same f g (suc k) n (λ i a b. h i (omega arith) (omega arith)))
 
+-- what holds of each number holds of all
+pub each-all : (test : ℕ → Bool) (k n : ℕ) → ((j : ℕ) → k ≤ j → j < k + n → test j ≡ true) → allFrom test k n ≡ true
+unfolding allFrom
+each-all test k zero h = refl
+each-all test k (suc n) h = rw (h k (omega arith) (omega arith)) (each-all test (suc k) n (λ j p q. h j (omega arith) (omega arith)))
+
 -- one number that fails
 and-no : (b : Bool) → (b && false) ≡ false
 and-no true = refl

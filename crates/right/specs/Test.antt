@@ -1,15 +1,16 @@
 -- The checker's test, as it is computed: whether a table is right for a list. `acceptance.proofs.Theorems` shows that it holds
--- exactly where `Right` does. Only strings of the list are followed, so its work is bounded by the list.
-use Prim.Native.Nat.{ℕ, zero, suc, _+_}
-use mathlib.Core.Bool.{Bool, true, false, cond, not, _&&_, _||_, Bool·beq}
+-- exactly where `Right` does. Only strings of the list are followed, so its work is bounded by the list: the patterns stand in
+-- order, and so each path's continuations are met in order too. At each step the table must go on with the pattern's own symbol
+-- and with none of those that the list passes over.
+use Prim.Native.Nat.{ℕ, zero, suc, _+_, _-_}
+use mathlib.Core.Bool.{Bool, true, false, cond, not, _&&_, _||_}
 use mathlib.Core.List.{List, [], _∷_}
-use lib.Dec.{leb, eqb}
+use lib.Dec.{leb, ltb, eqb}
 use lib.ListN.{getD}
 use Rattle.base.specs.Limits.{symbols, patternLimit}
 use Rattle.base.specs.Grounds.{first, refuseIf}
 use Rattle.base.specs.declared.Check.{Check}
 use Rattle.base.specs.declared.Ground.the-variants.{NotRight}
-use Rattle.lines.specs.Lines.{isNil}
 use Rattle.lists.specs.Lists.{judgePatterns}
 use Rattle.liang.specs.Patterns.{Pattern, patternsOf}
 use Rattle.table.specs.Table.{cellKind, entryKind, cellSize, entrySize, cellCount, entryCount, judgeTable, cellsOf, entriesOf, look}
@@ -19,7 +20,6 @@ use Rattle.walk.specs.Chain.{chain}
 use Rattle.walk.specs.Raise.{highestSet}
 use Rattle.right.specs.Right.{sound}
 use Rattle.patterns.specs.Common.{common}
-unfoldable pub use Rattle.patterns.specs.Next.{nextIn}
 
 -- A test of n numbers from k on.
 unfoldable pub allFrom : (ℕ → Bool) → ℕ → ℕ → Bool
@@ -31,54 +31,86 @@ unfoldable pub kindsFrom : ℕ → ℕ → List ℕ → ℕ → ℕ → Bool
 kindsFrom size kind bytes at zero = true
 kindsFrom size kind bytes at (suc n) = eqb (getD bytes at 0) kind && kindsFrom size kind bytes (at + size) n
 
-abbrev pub isHit : Look → Bool
-isHit Miss = false
-isHit (Hit link output) = true
-
--- Does a path go on with this symbol? A leaf's does not; else it does where the cell at its base matches.
-unfoldable pub child : List ℕ → Bool → ℕ → ℕ → Bool
-child cells leaf base s = cond leaf false (isHit (look cells (base + s) s))
-
--- Table and list go on alike, symbol by symbol.
-unfoldable pub childrenRight : List ℕ → Bool → ℕ → ℕ → List ℕ → List Pattern → Bool
-childrenRight cells leaf base m own patterns = allFrom (λ s. Bool·beq (child cells leaf base s) (nextIn m own patterns s)) 1 symbols
-
 -- An output is faultless and sets exactly a pattern's levels, gap by gap.
 unfoldable pub exactTest : List ℕ → List ℕ → ℕ → ℕ → Bool
 exactTest entries levels m output =
     sound entries m output && allFrom (λ gap. eqb (highestSet (chain entries m m output) gap) (getD levels gap 0)) 0 (suc m)
 
--- A beginning of m symbols, reached with this link and output: a whole pattern's output is exact, another's is 0, and below 16
--- symbols table and list go on alike.
-unfoldable pub nodeRight : List ℕ → List ℕ → Pattern → List Pattern → ℕ → Bool → ℕ → ℕ → Bool
-nodeRight cells entries p patterns m whole link output =
-    cond whole (exactTest entries (p .levels) m output) (eqb output 0)
-    && (leb patternLimit m || childrenRight cells (eqb link 0) link m (p .symbols) patterns)
+-- Where a path ends: its base, and whether it is a leaf, from which nothing goes on.
+pub record Node : Type 0 where
+  pub leaf : Bool
+  pub base : ℕ
 
--- One pattern followed through the table. Its first `known` symbols stand in the pattern above and were tested there.
-unfoldable pub followStep : (ℕ → Bool) → List ℕ → List ℕ → Pattern → List Pattern → ℕ → ℕ → List ℕ → Look → Bool
-followStep go cells entries p patterns known m rest Miss = false
-followStep go cells entries p patterns known m rest (Hit link output) =
-    let onward = go link in
-    (leb m known || nodeRight cells entries p patterns m (isNil rest) link output) && (isNil rest || (not (eqb link 0) && onward))
+-- The node that a link leads to: "unless link is 0".
+abbrev pub linked : ℕ → Node
+linked link = record { leaf = eqb link 0; base = link }
 
-unfoldable pub follow : List ℕ → List ℕ → Pattern → List Pattern → ℕ → ℕ → ℕ → List ℕ → Bool
-follow cells entries p patterns known base m [] = true
-follow cells entries p patterns known base m (s ∷ rest) =
-    followStep (λ link. follow cells entries p patterns known link (m + 1) rest) cells entries p patterns known (m + 1) rest (look cells (base + s) s)
+-- The root is no leaf, whatever its base.
+abbrev pub rootAt : ℕ → Node
+rootAt base = record { leaf = false; base = base }
 
--- Each pattern in turn; `above` has the symbols of the one before it.
+-- The look at how the table goes on from a node with a symbol.
+unfoldable pub childAt : List ℕ → Node → ℕ → Look
+childAt cells node s = cond (node .leaf) Miss (look cells (node .base + s) s)
+
+abbrev pub isHit : Look → Bool
+isHit Miss = false
+isHit (Hit link output) = true
+
+-- From a node the table goes on with no symbol between two others.
+unfoldable pub noneBetween : List ℕ → Node → ℕ → ℕ → Bool
+noneBetween cells node low high = allFrom (λ s. not (isHit (childAt cells node s))) (suc low) (high - suc low)
+
+-- What a pattern has in common with its neighbours: how many symbols with the pattern above, with which symbol that one goes on
+-- behind them (0 where it ends there), and how many symbols with the pattern below.
+pub record Beside : Type 0 where
+  pub known : ℕ
+  pub low : ℕ
+  pub kept : ℕ
+
+-- At the node of m symbols of a pattern that goes on with s (0 where it ends there), the symbols that the list passes over. Below s
+-- they begin behind the symbol with which the pattern above left this node, or with the first where it hasn't this node; where it
+-- goes on with s itself, they were tested there. Above s they are passed over where the pattern below hasn't this node.
+unfoldable pub passedOver : List ℕ → Beside → Node → ℕ → ℕ → Bool
+passedOver cells beside node m s =
+    (ltb m (beside .known) || noneBetween cells node (cond (eqb m (beside .known)) (beside .low) 0) s)
+    && (leb m (beside .kept) || noneBetween cells node s (suc symbols))
+
+-- One pattern followed through the table, from the node of m symbols that a cell with this output leads to. Outputs: exact where
+-- the pattern ends, else 0; those of the symbols shared with the pattern above were tested there. A path has at most 16 symbols, so
+-- nothing is asked of how the table goes on behind as many.
+unfoldable pub followStep : (ℕ → ℕ → Bool) → Look → Bool
+followStep go Miss = false
+followStep go (Hit link output) = go link output
+
+unfoldable pub follow : List ℕ → List ℕ → List ℕ → Beside → Node → ℕ → ℕ → List ℕ → Bool
+follow cells entries levels beside node output m [] =
+    exactTest entries levels m output && (leb patternLimit m || passedOver cells beside node m 0)
+follow cells entries levels beside node output m (s ∷ rest) =
+    (leb m (beside .known) || eqb output 0)
+    && (passedOver cells beside node m s
+    && followStep (λ link out. follow cells entries levels beside (linked link) out (m + 1) rest) (childAt cells node s))
+
+-- The symbols of a list's first pattern; none where there is no pattern.
+abbrev pub firstSymbols : List Pattern → List ℕ
+firstSymbols [] = []
+firstSymbols (p ∷ rest) = p .symbols
+
+-- A pattern between the symbols of its neighbours.
+unfoldable pub besides : List ℕ → List ℕ → List ℕ → Beside
+besides above own below = record { known = common above own; low = getD above (common above own) 0; kept = common own below }
+
+-- Each pattern in turn; `above` has the symbols of the one before it. Behind the last, the root goes on with no further symbol.
 unfoldable pub patternsRight : List ℕ → List ℕ → ℕ → List ℕ → List Pattern → Bool
-patternsRight cells entries root above [] = true
+patternsRight cells entries root above [] = noneBetween cells (rootAt root) (getD above 0 0) (suc symbols)
 patternsRight cells entries root above (p ∷ rest) =
-    follow cells entries p (p ∷ rest) (common above (p .symbols)) root 0 (p .symbols) && patternsRight cells entries root (p .symbols) rest
+    follow cells entries (p .levels) (besides above (p .symbols) (firstSymbols rest)) (rootAt root) 0 0 (p .symbols)
+    && patternsRight cells entries root (p .symbols) rest
 
--- The whole test: kinds, the root, and every pattern.
+-- The whole test: kinds, and every pattern.
 unfoldable pub rightTest : List Pattern → List ℕ → List ℕ → ℕ → ℕ → ℕ → Bool
 rightTest patterns cells entries root c e =
-    kindsFrom cellSize cellKind cells 0 c
-    && (kindsFrom entrySize entryKind entries 0 e
-    && (childrenRight cells false root 0 [] patterns && patternsRight cells entries root [] patterns))
+    kindsFrom cellSize cellKind cells 0 c && (kindsFrom entrySize entryKind entries 0 e && patternsRight cells entries root [] patterns)
 
 -- "checker 8, 7, 9, 12". "The checker accepts when it answers without a refusal." "The base starts at 0."
 unfoldable pub judgeCheck : List ℕ → List ℕ → Check

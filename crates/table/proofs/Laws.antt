@@ -1,21 +1,18 @@
 -- Laws about the table on bytes: one for each way through the code.
 use Prim.Native.Nat.{ℕ, _+_, _*_, _-_, _/_, _%_, _≤_, _<_}
-use mathlib.Core.Bool.{Bool, true, false, cond, not, _&&_}
+use mathlib.Core.Bool.{and-false}
 use mathlib.Core.List.{List, []}
-use mathlib.Core.Path.{_≡_, refl, sym, _∙_, ap}
+use mathlib.Core.Path.{_≡_, refl, sym, _∙_}
 use native.Mathlib.Omega.{arith}
 use borrow.Author.Tests.{lt-leb, le-leb, eq-eqb, ne-eqb}
-use lib.Dec.{leb, eqb}
-use lib.ListN.{length, getD, set, take, drop, length-set, length-drop, drop-of-length-le, List·getD-eq-default}
+use lib.Dec.{eqb}
+use lib.ListN.{length, getD, set, take, drop, length-drop, drop-of-length-le, List·getD-eq-default}
 use lib.Seq.{take-all, take-nil, set-out}
 use Rattle.base.specs.Limits.{cells, entries}
-use Rattle.base.specs.declared.Check.{Check}
 use Rattle.base.specs.declared.Check.the-variants.{Fine, Refused}
 use Rattle.base.specs.declared.Ground.the-variants.{TableForm}
 use Rattle.table.specs.Table.{numberAt, putNumber, cellCount, entryCount, formed, judgeTable, cellsOf, entriesOf, look, entryAt}
-use Rattle.table.specs.declared.Look.{Look}
 use Rattle.table.specs.declared.Look.the-variants.{Hit, Miss}
-use Rattle.table.specs.declared.Entry.{Entry}
 use Rattle.table.specs.declared.Entry.the-variants.{Has, Stop}
 
 pub number-is : (t : List ℕ) (at : ℕ) → 256 * getD t at 0 + getD t (at + 1) 0 ≡ numberAt t at
@@ -151,9 +148,9 @@ module _ (t : List ℕ) (n s : ℕ) where
     unfolding look
     look-kind k = rw (le-leb (6 * n + 6) (length t) h, ne-eqb (getD t (6 * n) 0) 2 k)
 
-    pub look-other : getD t (6 * n) 0 ≡ 2 → (getD t (6 * n + 1) 0 ≡ s → ⊥) → Miss ≡ look t n s
+    pub look-other : (getD t (6 * n + 1) 0 ≡ s → ⊥) → Miss ≡ look t n s
     unfolding look
-    look-other k d = rw (le-leb (6 * n + 6) (length t) h, eq-eqb (getD t (6 * n) 0) 2 k, ne-eqb (getD t (6 * n + 1) 0) s d)
+    look-other d = rw (le-leb (6 * n + 6) (length t) h, ne-eqb (getD t (6 * n + 1) 0) s d, and-false (eqb (getD t (6 * n) 0) 2))
 
     pub look-hit : getD t (6 * n) 0 ≡ 2 → getD t (6 * n + 1) 0 ≡ s → {l o : ℕ} → l ≡ numberAt t (6 * n + 2) → o ≡ numberAt t (6 * n + 4) → Hit l o ≡ look t n s
     unfolding look

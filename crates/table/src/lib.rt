@@ -131,18 +131,21 @@ pub fn entries_of(table: &[u8]) -> &[u8]
     &table[end..]
 }
 
-// The look at the cell numbered base + symbol.
+// The look at the cell numbered base + symbol. Most looks miss by the symbol, so it is asked first.
 pub fn look_at(cells: &[u8], base: u16, symbol: u8) -> Look
     ensures { λ r. ⌜ r ≡ look (now (cells .entry)) (base + symbol) symbol ⌝ }
 {
     let at = 6 * (base as usize + symbol as usize);
-    if cells.len() < at + 6 {
+    if cells.len() < 6 {
         return Look::Miss;
     }
-    if cells[at] != 2 {
+    if cells.len() - 6 < at {
         return Look::Miss;
     }
     if cells[at + 1] != symbol {
+        return Look::Miss;
+    }
+    if cells[at] != 2 {
         return Look::Miss;
     }
     Look::Hit {

@@ -1,14 +1,15 @@
 -- Laws about chains, walks and the room: one for each way through the code.
-use Prim.Native.Nat.{ℕ, zero, suc, _+_, _*_, _-_, _≤_, _<_, min}
+use Prim.Native.Nat.{ℕ, zero, suc, _+_, _*_, _-_, _≤_, _<_, max}
 use mathlib.Core.Bool.{Bool, true, false, cond, _&&_}
 use mathlib.Core.List.{List, [], _∷_, _++_, append-nil, append-assoc}
 use mathlib.Core.Path.{_≡_, refl, sym, _∙_, ap}
+use native.Mathlib.Decide.{decLt}
 use native.Mathlib.Numerals.{add-one}
 use native.Mathlib.Omega.{arith}
 use borrow.Author.Tests.{lt-leb, le-leb, lt-ltb, le-ltb, eq-eqb, ne-eqb, ltb-true}
 use lib.Dec.{leb, ltb, eqb}
 use lib.ListN.{length, getD, take, drop, set, length-set, drop-of-length-le}
-use lib.Seq.{set-out, take-suc, take-suc-set, take-length, length-take-le}
+use lib.Seq.{set-getD, take-suc, take-suc-set, take-length, length-take-le}
 use Rattle.base.specs.Limits.{levelLimit, patternLimit, edge, wordLimit, rowLimit}
 use Rattle.base.proofs.Lists.{cons-at}
 use Rattle.words.specs.Symbols.{lower, symbolOf}
@@ -35,21 +36,14 @@ module _ (n before level : ℕ) (room : List ℕ) where
   unfolding raise
   raise-high h k = rw (le-leb 2 before h, lt-leb before n k)
 
-  pub raise-out : length room ≤ before - 1 → room ≡ raise n (record { before = before; level = level }) room
+  -- the higher of both levels, stored where it is an inner gap
+  pub raise-highest : 2 ≤ before → before ≤ n → {x : ℕ} → x ≡ max (getD room (before - 1) 0) level → set room (before - 1) x ≡ raise n (record { before = before; level = level }) room
   unfolding raise
-  raise-out k = go (leb 2 before && (leb before n && ltb (getD room (before - 1) 0) level))
+  raise-highest h k {x} e = rw (le-leb 2 before h, le-leb before n k) (go (decLt (getD room (before - 1) 0) level))
     where
-      go : (z : Bool) → room ≡ cond z (set room (before - 1) level) room
-      go true = sym (set-out room (before - 1) level k)
-      go false = refl
-
-  pub raise-set : 2 ≤ before → before ≤ n → getD room (before - 1) 0 < level → set room (before - 1) level ≡ raise n (record { before = before; level = level }) room
-  unfolding raise
-  raise-set h k l = rw (le-leb 2 before h, le-leb before n k, lt-ltb (getD room (before - 1) 0) level l)
-
-  pub raise-kept : 2 ≤ before → before ≤ n → level ≤ getD room (before - 1) 0 → room ≡ raise n (record { before = before; level = level }) room
-  unfolding raise
-  raise-kept h k l = rw (le-leb 2 before h, le-leb before n k, le-ltb (getD room (before - 1) 0) level l)
+      go : Dec (getD room (before - 1) 0 < level) → set room (before - 1) x ≡ cond (ltb (getD room (before - 1) 0) level) (set room (before - 1) level) room
+      go (yes l) = let m : x ≡ level = omega arith in rw (lt-ltb (getD room (before - 1) 0) level l, m)
+      go (no l) = let m : x ≡ getD room (before - 1) 0 = omega arith in rw (le-ltb (getD room (before - 1) 0) level (omega arith), m) (set-getD room (before - 1) 0)
 
 pub raise-append : (n : ℕ) (a b : List Setting) (room : List ℕ) → raiseAll n (a ++ b) room ≡ raiseAll n b (raiseAll n a room)
 unfolding raiseAll
@@ -134,12 +128,13 @@ module _ (entries : List ℕ) (n m end k : ℕ) (room : List ℕ) {e : Entry} (p
 
 -- the walk from one place: where the code stands inside it, and where it ends
 module _ (cells entries : List ℕ) (root n place : ℕ) (row room₀ : List ℕ) where
-  pub record Walking (base m : ℕ) (room : List ℕ) : Type 0 where
-    pub inside : place + m < length row
+  pub record Walking (base m end : ℕ) (room : List ℕ) : Type 0 where
+    pub inside : end < length row
+    pub behind : m ≤ end
     pub fewer : m < patternLimit
-    pub counted : looksFrom cells patternLimit root (drop place row) ≡ m + looksFrom cells (patternLimit - m) base (drop (place + m) row)
+    pub counted : looksFrom cells patternLimit root (drop place row) ≡ m + looksFrom cells (patternLimit - m) base (drop end row)
     pub raised : raiseAll n (settings cells entries root place (drop place row)) room₀
-        ≡ raiseAll n (setFrom cells entries (patternLimit - m) base m (place + m) (drop (place + m) row) ++ settings cells entries root (place + 1) (drop (place + 1) row)) room
+        ≡ raiseAll n (setFrom cells entries (patternLimit - m) base m end (drop end row) ++ settings cells entries root (place + 1) (drop (place + 1) row)) room
     pub kept : length room ≡ length room₀
 
   pub record Ended (walked : ℕ) (after : List ℕ) : Type 0 where
@@ -148,37 +143,27 @@ module _ (cells entries : List ℕ) (root n place : ℕ) (row room₀ : List ℕ
     pub raised : raiseAll n (settings cells entries root place (drop place row)) room₀ ≡ raiseAll n (settings cells entries root (place + 1) (drop (place + 1) row)) after
     pub kept : length after ≡ length room₀
 
-  pub walking-start : place < length row → Walking root 0 room₀
+  pub walking-start : place < length row → Walking root 0 place room₀
   unfolding settings
-  walking-start h =
-      let z : place + 0 ≡ place = omega arith in
-      record {
-        inside = omega arith;
-        fewer = omega arith;
-        counted = rw z (omega arith);
-        raised = rw (z, cons-at row place h);
-        kept = refl;
-      }
+  walking-start h = record { inside = h; behind = omega arith; fewer = omega arith; counted = omega arith; raised = rw (cons-at row place h); kept = refl }
 
-  module _ {base m : ℕ} {room : List ℕ} (w : Walking base m room) where
-    turn-sets : setFrom cells entries (patternLimit - m) base m (place + m) (drop (place + m) row)
-        ≡ setStep (λ link. setFrom cells entries (patternLimit - (m + 1)) link (m + 1) (place + (m + 1)) (drop (place + (m + 1)) row)) entries (m + 1) (place + (m + 1))
-        (look cells (base + getD row (place + m) 0) (getD row (place + m) 0))
+  module _ {base m end : ℕ} {room : List ℕ} (w : Walking base m end room) where
+    turn-sets : setFrom cells entries (patternLimit - m) base m end (drop end row)
+        ≡ setStep (λ link. setFrom cells entries (patternLimit - (m + 1)) link (m + 1) (end + 1) (drop (end + 1) row)) entries (m + 1) (end + 1)
+        (look cells (base + getD row end 0) (getD row end 0))
     unfolding setFrom
     turn-sets =
         let e : patternLimit - m ≡ suc (patternLimit - (m + 1)) = omega (arith, w .fewer) in
-        let f : place + m + 1 ≡ place + (m + 1) = omega arith in
-        rw (e, cons-at row (place + m) (w .inside), f)
+        rw (e, cons-at row end (w .inside))
 
-    turn-looks : looksFrom cells (patternLimit - m) base (drop (place + m) row)
-        ≡ lookStep (λ link. looksFrom cells (patternLimit - (m + 1)) link (drop (place + (m + 1)) row)) (look cells (base + getD row (place + m) 0) (getD row (place + m) 0))
+    turn-looks : looksFrom cells (patternLimit - m) base (drop end row)
+        ≡ lookStep (λ link. looksFrom cells (patternLimit - (m + 1)) link (drop (end + 1) row)) (look cells (base + getD row end 0) (getD row end 0))
     unfolding looksFrom
     turn-looks =
         let e : patternLimit - m ≡ suc (patternLimit - (m + 1)) = omega (arith, w .fewer) in
-        let f : place + m + 1 ≡ place + (m + 1) = omega arith in
-        rw (e, cons-at row (place + m) (w .inside), f)
+        rw (e, cons-at row end (w .inside))
 
-    module _ {found : Look} (p : found ≡ look cells (base + getD row (place + m) 0) (getD row (place + m) 0)) where
+    module _ {found : Look} (p : found ≡ look cells (base + getD row end 0) (getD row end 0)) where
       pub walking-miss : found ≡ Miss → Ended (m + 1) room
       unfolding setStep lookStep
       walking-miss q =
@@ -189,24 +174,24 @@ module _ (cells entries : List ℕ) (root n place : ℕ) (row room₀ : List ℕ
             kept = w .kept;
           }
 
-      module _ {link output : ℕ} (q : found ≡ Hit link output) {after : List ℕ} (r : after ≡ raiseAll n (chain entries (m + 1) (place + (m + 1)) output) room) where
+      module _ {link output : ℕ} (q : found ≡ Hit link output) {after : List ℕ} (r : after ≡ raiseAll n (chain entries (m + 1) (end + 1) output) room) where
         tail : List Setting
-        tail = setFrom cells entries (patternLimit - (m + 1)) link (m + 1) (place + (m + 1)) (drop (place + (m + 1)) row)
+        tail = setFrom cells entries (patternLimit - (m + 1)) link (m + 1) (end + 1) (drop (end + 1) row)
 
         hit-raised : raiseAll n (settings cells entries root place (drop place row)) room₀
             ≡ raiseAll n (cond (eqb link 0) [] tail ++ settings cells entries root (place + 1) (drop (place + 1) row)) after
         unfolding setStep tail
         hit-raised =
             w .raised
-            ∙ rw (turn-sets, ← p, q, append-assoc, raise-append n (chain entries (m + 1) (place + (m + 1)) output), ← r)
+            ∙ rw (turn-sets, ← p, q, append-assoc, raise-append n (chain entries (m + 1) (end + 1) output), ← r)
 
         hit-counted : looksFrom cells patternLimit root (drop place row)
-            ≡ m + (1 + cond (eqb link 0) 0 (looksFrom cells (patternLimit - (m + 1)) link (drop (place + (m + 1)) row)))
+            ≡ m + (1 + cond (eqb link 0) 0 (looksFrom cells (patternLimit - (m + 1)) link (drop (end + 1) row)))
         unfolding lookStep
         hit-counted = w .counted ∙ rw (turn-looks, ← p, q)
 
         hit-kept : length after ≡ length room₀
-        hit-kept = ap length r ∙ raises-length n (chain entries (m + 1) (place + (m + 1)) output) room ∙ w .kept
+        hit-kept = ap length r ∙ raises-length n (chain entries (m + 1) (end + 1) output) room ∙ w .kept
 
         pub walking-leaf : link ≡ 0 → Ended (m + 1) after
         walking-leaf z =
@@ -218,7 +203,7 @@ module _ (cells entries : List ℕ) (root n place : ℕ) (row room₀ : List ℕ
             }
 
         -- nothing more may match: the row has ended, or sixteen symbols have matched
-        spent : tail ≡ [] → looksFrom cells (patternLimit - (m + 1)) link (drop (place + (m + 1)) row) ≡ 0 → (link ≡ 0 → ⊥) → Ended (m + 1) after
+        spent : tail ≡ [] → looksFrom cells (patternLimit - (m + 1)) link (drop (end + 1) row) ≡ 0 → (link ≡ 0 → ⊥) → Ended (m + 1) after
         spent t l z =
             record {
               counted = sym (hit-counted ∙ rw (ne-eqb link 0 z, l));
@@ -227,11 +212,11 @@ module _ (cells entries : List ℕ) (root n place : ℕ) (row room₀ : List ℕ
               kept = hit-kept;
             }
 
-        pub walking-out : (link ≡ 0 → ⊥) → length row ≤ place + (m + 1) → Ended (m + 1) after
+        pub walking-out : (link ≡ 0 → ⊥) → length row ≤ end + 1 → Ended (m + 1) after
         unfolding tail
         walking-out z h = spent (rw (drop-of-length-le row h) (no-row (patternLimit - (m + 1)))) (rw (drop-of-length-le row h) (no-looks (patternLimit - (m + 1)))) z
           where
-            no-row : (k : ℕ) → setFrom cells entries k link (m + 1) (place + (m + 1)) [] ≡ []
+            no-row : (k : ℕ) → setFrom cells entries k link (m + 1) (end + 1) [] ≡ []
             no-row zero = unfold setFrom in refl
             no-row (suc k) = unfold setFrom in refl
 
@@ -243,11 +228,12 @@ module _ (cells entries : List ℕ) (root n place : ℕ) (row room₀ : List ℕ
         unfolding tail setFrom looksFrom
         walking-full z h = let e : patternLimit - (m + 1) ≡ 0 = omega arith in spent (rw e) (rw e) z
 
-        pub walking-on : (link ≡ 0 → ⊥) → place + (m + 1) < length row → m + 1 < patternLimit → Walking link (m + 1) after
+        pub walking-on : (link ≡ 0 → ⊥) → end + 1 < length row → m + 1 < patternLimit → Walking link (m + 1) (end + 1) after
         unfolding tail
         walking-on z h k =
             record {
               inside = h;
+              behind = omega (arith, w .behind);
               fewer = k;
               counted = hit-counted ∙ rw (ne-eqb link 0 z) (omega arith);
               raised = hit-raised ∙ rw (ne-eqb link 0 z);
@@ -298,11 +284,9 @@ unfolding wordSymbols
 row-start word [] h = absurd (omega arith)
 row-start word (x ∷ row) h = refl
 
-pub row-turn : (word row : List ℕ) (i : ℕ) {b x : ℕ} → i < length word → i + 1 < length row → take (i + 1) row ≡ edge ∷ wordSymbols (take i word)
-    → b ≡ lower (getD word i 0) → x ≡ symbolOf b → take (i + 1 + 1) (set row (i + 1) x) ≡ edge ∷ wordSymbols (take (i + 1) word)
-row-turn word row i {b} {x} h k e p q =
-    let y : x ≡ symbolOf (lower (getD word i 0)) = q ∙ ap symbolOf p in
-    rw (add-one (i + 1), take-suc-set row (i + 1) x, e, row-more word i h, y)
+pub row-turn : (word row : List ℕ) (i : ℕ) {x : ℕ} → i < length word → i + 1 < length row → take (i + 1) row ≡ edge ∷ wordSymbols (take i word)
+    → x ≡ symbolOf (lower (getD word i 0)) → take (i + 1 + 1) (set row (i + 1) x) ≡ edge ∷ wordSymbols (take (i + 1) word)
+row-turn word row i {x} h k e q = rw (add-one (i + 1), take-suc-set row (i + 1) x, e, row-more word i h, q)
 
 pub row-end : (word row : List ℕ) (i : ℕ) → i ≡ length word → i + 1 < length row → take (i + 1) row ≡ edge ∷ wordSymbols (take i word)
     → take (length word + 2) (set row (i + 1) edge) ≡ rowOf word
@@ -314,20 +298,10 @@ row-end word row i h k e =
 pub row-kept : (row₀ row : List ℕ) (i x : ℕ) → length row ≡ length (set row₀ 0 edge) → length (set row i x) ≡ length row₀
 row-kept row₀ row i x e = length-set row i x ∙ e ∙ length-set row₀ 0 edge
 
--- the part of a word that is walked
-module _ (w : List ℕ) {n : ℕ} (p : n ≡ min (length w) wordLimit) where
-  pub part-length : n ≡ length (take n w)
-  part-length = sym (length-take-le n w (omega arith))
+-- the row of a judged word
+pub row-part : (row : List ℕ) (n : ℕ) → length row ≡ rowLimit → n ≤ wordLimit → n + 2 ≡ length (take (n + 2) row)
+row-part row n h k = sym (length-take-le (n + 2) row (omega arith))
 
-  pub part-fits : length (take n w) + 2 ≤ rowLimit
-  part-fits = omega (arith, part-length)
-
-  pub row-part : (row : List ℕ) → length row ≡ rowLimit → n + 2 ≡ length (take (n + 2) row)
-  row-part row h = sym (length-take-le (n + 2) row (omega arith))
-
-  pub word-walked : (row : List ℕ) {cells entries room after : List ℕ} {root count : ℕ} → take (length (take n w) + 2) row ≡ rowOf (take n w)
-      → Walked cells entries root n (take (n + 2) row) room count after
-      → Walked cells entries root (min (length w) wordLimit) (rowOf (take (min (length w) wordLimit) w)) room count after
-  word-walked row e x =
-      let k : take (n + 2) row ≡ rowOf (take n w) = ap (λ (z : ℕ). take (z + 2) row) part-length ∙ e in
-      rw (← p, ← k) x
+pub word-walked : (w row : List ℕ) {cells entries room after : List ℕ} {root count : ℕ} → take (length w + 2) row ≡ rowOf w
+    → Walked cells entries root (length w) (take (length w + 2) row) room count after → Walked cells entries root (length w) (rowOf w) room count after
+word-walked w row e x = rw (← e) x

@@ -1,16 +1,17 @@
 -- Laws about letters, symbols and words. Function proofs and other crates cite these and not the definitions.
-use Prim.Native.Nat.{ℕ, suc, _+_, _-_, _≤_, _<_}
-use mathlib.Core.Bool.{Bool, true, false, cond, _&&_, _||_}
+use Prim.Native.Nat.{ℕ, zero, suc, _+_, _-_, _≤_, _<_}
+use mathlib.Core.Bool.{Bool, true, false, cond, _&&_}
 use mathlib.Core.List.{List, [], _∷_, _++_}
 use mathlib.Core.Path.{_≡_, refl, sym, _∙_, ap}
 use native.Mathlib.Omega.{arith}
-use borrow.Author.Tests.{lt-leb, le-leb, lt-ltb, le-ltb, eq-eqb, ne-eqb, leb-true, leb-false, eqb-true, eqb-false}
+use borrow.Author.Tests.{lt-leb, le-leb, lt-ltb, le-ltb, eq-eqb, ne-eqb, leb-true, ltb-false}
 use lib.Dec.{leb, ltb, eqb}
 use lib.ListN.{length, getD, drop, length-append, drop-of-length-le}
 use Rattle.base.specs.Limits.{edge}
-use Rattle.base.specs.declared.Check.{Check}
 use Rattle.base.specs.declared.Check.the-variants.{Fine, Refused}
 use Rattle.base.specs.declared.Ground.the-variants.{WordEmpty, WordLong, NotLetter}
+use Rattle.base.specs.Grounds.{first, refuseIf}
+use Rattle.base.proofs.Grounds.{both-fine, not-refused}
 use Rattle.base.proofs.Lists.{cons-at, never}
 use Rattle.words.specs.Symbols.{small, capital, letter, lower, digit, symbolOf, symbolsOf, dot}
 use Rattle.words.specs.Words.{allLetters, judgeWord, wordSymbols, rowOf}
@@ -104,6 +105,29 @@ unfolding allLetters
 letters-end w i h = rw (drop-of-length-le w h)
 
 -- which classes of bytes exclude each other
+letters-each : (at : ℕ) (l : List ℕ) → allLetters at l ≡ Fine → (i : ℕ) → i < length l → letter (getD l i 0) ≡ true
+unfolding allLetters
+letters-each at [] e i h = absurd (omega arith)
+letters-each at (b ∷ t) e i h = go (letter b) refl e (letters-each (at + 1) t) i h
+  where
+    go : (z : Bool) → letter b ≡ z → cond z (allLetters (at + 1) t) (Refused (NotLetter at)) ≡ Fine → (allLetters (at + 1) t ≡ Fine → (i : ℕ) → i < length t → letter (getD t i 0) ≡ true)
+        → (i : ℕ) → i < length (b ∷ t) → letter (getD (b ∷ t) i 0) ≡ true
+    go true p q next zero k = p
+    go true p q next (suc i) k = next q i (omega arith)
+    go false p q next i k = let z : _≡_ {A = ℕ} 0 1 = cc in absurd (omega arith)
+
+-- what a judged word is: short, and all letters
+module _ (limit : ℕ) (w : List ℕ) (fine : judgeWord limit w ≡ Fine) where
+  some-fine : first (refuseIf (ltb limit (length w)) WordLong) (allLetters 0 w) ≡ Fine
+  unfolding judgeWord
+  some-fine = both-fine (refuseIf (eqb (length w) 0) WordEmpty) _ fine .1
+
+  pub word-fits : length w ≤ limit
+  word-fits = ltb-false limit (length w) (not-refused (ltb limit (length w)) WordLong (both-fine (refuseIf (ltb limit (length w)) WordLong) (allLetters 0 w) some-fine .0))
+
+  pub word-letter : (i : ℕ) → i < length w → letter (getD w i 0) ≡ true
+  word-letter = letters-each 0 w (both-fine (refuseIf (ltb limit (length w)) WordLong) (allLetters 0 w) some-fine .1)
+
 pub small-not-digit : (b : ℕ) → small b ≡ true → digit b ≡ false
 unfolding digit
 small-not-digit b e = let h : 57 < b = omega (arith, small-low b e) in rw (lt-leb b 57 h, le-leb 49 b (omega arith))

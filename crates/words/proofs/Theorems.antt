@@ -1,23 +1,28 @@
 -- "Capitals count as small": words that differ only in case are judged alike and have the same symbols.
-use Prim.Native.Nat.{ℕ, suc, _+_, _≤_}
+use Prim.Native.Nat.{ℕ, suc, _+_, _-_, _%_, _≤_}
 use mathlib.Core.Bool.{Bool, true, false, cond, _&&_, _||_}
 use mathlib.Core.List.{List, [], _∷_, map}
 use mathlib.Core.Path.{_≡_, refl, sym, _∙_, ap}
 use native.Mathlib.Omega.{arith}
-use borrow.Author.Tests.{le-leb, lt-leb, leb-true}
+use borrow.Author.Tests.{le-leb, lt-leb}
 use lib.Dec.{leb, ltb, eqb}
 use lib.ListN.{length}
 use Rattle.base.specs.Grounds.{first, refuseIf}
 use Rattle.base.specs.declared.Check.{Check}
 use Rattle.base.specs.declared.Check.the-variants.{Fine, Refused}
 use Rattle.base.specs.declared.Ground.the-variants.{WordEmpty, WordLong, NotLetter}
+use Rattle.base.proofs.Lists.{never}
 use Rattle.words.specs.Symbols.{small, capital, letter, lower, symbolOf}
 use Rattle.words.specs.Words.{allLetters, judgeWord, wordSymbols}
-use Rattle.words.proofs.Laws.{small-low, range-low, range-high}
+use Rattle.words.proofs.Laws.{small-low, small-high, range-low, range-high}
 
 small-not-capital : (b : ℕ) → small b ≡ true → capital b ≡ false
 unfolding capital
 small-not-capital b e = let h : 90 + 1 ≤ b = omega (arith, small-low b e) in rw (le-leb 65 b (omega arith), lt-leb b 90 h)
+
+capital-range : (b : ℕ) → capital b ≡ true → (leb 65 b && leb b 90) ≡ true
+unfolding capital
+capital-range b e = e
 
 capital-lowered : (b : ℕ) → capital b ≡ true → small (b + 32) ≡ true
 unfolding small capital
@@ -35,6 +40,17 @@ letter-lower b = go (small b) refl (capital b) refl
     go true p false q = sym p
     go false p true q = sym (capital-lowered b q)
     go false p false q = sym p
+
+-- both cases of a letter have the same last five bits
+pub letter-bits : (b : ℕ) → letter b ≡ true → b % 32 ≡ symbolOf (lower b)
+unfolding letter lower symbolOf
+letter-bits b e = go (small b) refl (capital b) refl e
+  where
+    go : (s : Bool) → small b ≡ s → (k : Bool) → capital b ≡ k → (s || k) ≡ true → b % 32 ≡ symbolOf (cond k (b + 32) b)
+    go true p true q t = never (sym (small-not-capital b p) ∙ q)
+    go true p false q t = rw p (omega (arith, small-low b p, small-high b p))
+    go false p true q t = rw (capital-lowered b q) (omega (arith, range-low 65 90 b (capital-range b q), range-high 65 90 b (capital-range b q)))
+    go false p false q t = never t
 
 -- the judgement as one of the word in small letters
 smallOnly : ℕ → List ℕ → Check

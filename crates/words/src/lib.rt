@@ -2,6 +2,7 @@
 use base::Check;
 use base::Ground;
 ghost use mathlib.Core.Path.{_≡_};
+ghost use mathlib.Core.Bool.{true};
 ghost use Rattle.words.specs.Symbols.{small, capital, letter, lower, digit, symbolOf};
 ghost use Rattle.words.specs.Words.{judgeWord};
 
@@ -65,6 +66,14 @@ pub fn symbol_of(b: u8) -> u8
         return base::EDGE;
     }
     0
+}
+
+// A letter's symbol, whatever its case: both cases have the same last five bits, and these number the alphabet.
+pub fn letter_symbol(b: u8) -> u8
+    requires { ⌜ letter b ≡ true ⌝ }
+    ensures { λ r. ⌜ r ≡ symbolOf (lower b) ⌝ }
+{
+    b % 32
 }
 
 // Grounds 2, 4 and 3 of a word of at most limit bytes.

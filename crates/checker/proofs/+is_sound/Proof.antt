@@ -1,8 +1,8 @@
 use borrow.Author.Needs.{needs}
-use Rattle.checker.proofs.Laws.{sound-none, sound-stop, sound-low, sound-high, sound-far, sound-back, sound-on}
 use Prim.Native.Nat.{ℕ, _<_}
 use borrow.Fn.Kinds.{In}
 use borrow.Fn.PlainCycle.{Measures, is, falls, and}
+use Rattle.checker.proofs.Laws.{sound-none, sound-stop, sound-low, sound-high, sound-far, sound-back, sound-on}
 use Rattle.checker.proofs.is_sound.Reads as is-sound
 use Rattle.checker.proofs.is_sound.Kinds as is-sound-kinds
 use Rattle.checker.proofs.+is_sound.Lts-is_sound as is-sound-lts
@@ -10,15 +10,15 @@ use Rattle.table.proofs.entry_at.Reads as entry-at-reads
 use Rattle.checker.proofs.+is_sound.{statement}
 use Rattle.checker.proofs.+is_sound.Tie.{close}
 
-abbrev μ-is-sound : Measures 1 is-sound-kinds.ps ℕ
+abbrev μ-is-sound : Measures 2 is-sound-kinds.ps ℕ
 μ-is-sound κs a = a .1 .0
 
-abbrev is-sound-at : ℕ → In 1 is-sound-kinds.ps
-is-sound-at t = and 1 is-sound-kinds.ps (is 1 is-sound-kinds.ps μ-is-sound t) is-sound.Pre
+abbrev is-sound-at : ℕ → In 2 is-sound-kinds.ps
+is-sound-at t = and 2 is-sound-kinds.ps (is 2 is-sound-kinds.ps μ-is-sound t) is-sound.Pre
 
-abbrev is-sound-below : ℕ → In 1 is-sound-kinds.ps
+abbrev is-sound-below : ℕ → In 2 is-sound-kinds.ps
 is-sound-below t =
-    and 1 is-sound-kinds.ps (falls 1 is-sound-kinds.ps _<_ μ-is-sound t) is-sound.Pre
+    and 2 is-sound-kinds.ps (falls 2 is-sound-kinds.ps _<_ μ-is-sound t) is-sound.Pre
 
 is-sound-returns : (t : ℕ) → is-sound-lts.Need-returns (
   entry-at-reads.Asked,
@@ -58,7 +58,7 @@ is-sound-returns-2 : (t : ℕ) → is-sound-lts.Need-returns-2 (
   is-sound-below t,
   is-sound.Post,
 ) (is-sound-at t) is-sound.Post
-is-sound-returns-2 t c = sound-stop _ _ _ (c .before .before .before .if1 .left) (c .before .before .entry-at .ensures) (c .enum-told .given .1)
+is-sound-returns-2 t c = sound-stop _ _ _ (c .before .before .before .before .if1 .left) (c .before .before .entry-at .ensures) (c .enum-told .given .1)
 
 is-sound-returns-3 : (t : ℕ) → is-sound-lts.Need-returns-3 (
   entry-at-reads.Asked,
@@ -66,7 +66,7 @@ is-sound-returns-3 : (t : ℕ) → is-sound-lts.Need-returns-3 (
   is-sound-below t,
   is-sound.Post,
 ) (is-sound-at t) is-sound.Post
-is-sound-returns-3 t c = sound-low _ _ _ (c .before .before .before .before .before .if1 .left) (c .before .before .before .before .entry-at .ensures) (c .before .before .entry .given .1) (c .if2 .taken)
+is-sound-returns-3 t c = sound-low _ _ _ (c .before .before .before .before .before .before .if1 .left) (c .before .before .before .before .entry-at .ensures) (c .before .before .entry .given .1) (c .if2 .taken)
 
 is-sound-returns-4 : (t : ℕ) → is-sound-lts.Need-returns-4 (
   entry-at-reads.Asked,
@@ -74,7 +74,7 @@ is-sound-returns-4 : (t : ℕ) → is-sound-lts.Need-returns-4 (
   is-sound-below t,
   is-sound.Post,
 ) (is-sound-at t) is-sound.Post
-is-sound-returns-4 t c = sound-high _ _ _ (c .before .before .before .before .before .before .if1 .left) (c .before .before .before .before .before .entry-at .ensures) (c .before .before .before .entry .given .1) (c .before .if2 .left) (c .if3 .taken)
+is-sound-returns-4 t c = sound-high _ _ _ (c .before .before .before .before .before .before .before .if1 .left) (c .before .before .before .before .before .entry-at .ensures) (c .before .before .before .entry .given .1) (c .before .if2 .left) (c .if3 .taken)
 
 is-sound-cast-if4 : (t : ℕ) → is-sound-lts.Need-cast-if4 (
   entry-at-reads.Asked,
@@ -90,7 +90,7 @@ is-sound-returns-5 : (t : ℕ) → is-sound-lts.Need-returns-5 (
   is-sound-below t,
   is-sound.Post,
 ) (is-sound-at t) is-sound.Post
-is-sound-returns-5 t c = sound-far _ _ _ (c .before .before .before .before .before .before .before .if1 .left) (c .before .before .before .before .before .before .entry-at .ensures) (c .before .before .before .before .entry .given .1) (c .before .before .if2 .left) (c .before .if3 .left) (c .if4 .taken)
+is-sound-returns-5 t c = sound-far _ _ _ (c .before .before .before .before .before .before .before .before .if1 .left) (c .before .before .before .before .before .before .entry-at .ensures) (c .before .before .before .before .entry .given .1) (c .before .before .if2 .left) (c .before .if3 .left) (c .if4 .taken)
 
 is-sound-returns-6 : (t : ℕ) → is-sound-lts.Need-returns-6 (
   entry-at-reads.Asked,
@@ -98,7 +98,7 @@ is-sound-returns-6 : (t : ℕ) → is-sound-lts.Need-returns-6 (
   is-sound-below t,
   is-sound.Post,
 ) (is-sound-at t) is-sound.Post
-is-sound-returns-6 t c = sound-back _ _ _ (c .before .before .before .before .before .before .before .before .if1 .left) (c .before .before .before .before .before .before .before .entry-at .ensures) (c .before .before .before .before .before .entry .given .1) (c .before .before .before .if2 .left) (c .before .before .if3 .left) (c .before .if4 .left) (c .if5 .taken)
+is-sound-returns-6 t c = sound-back _ _ _ (c .before .before .before .before .before .before .before .before .before .if1 .left) (c .before .before .before .before .before .before .before .entry-at .ensures) (c .before .before .before .before .before .entry .given .1) (c .before .before .before .if2 .left) (c .before .before .if3 .left) (c .before .if4 .left) (c .if5 .taken)
 
 is-sound-is-sound-requires : (t : ℕ) → is-sound-lts.Need-is-sound-requires (
   entry-at-reads.Asked,
@@ -114,7 +114,7 @@ is-sound-returns-7 : (t : ℕ) → is-sound-lts.Need-returns-7 (
   is-sound-below t,
   is-sound.Post,
 ) (is-sound-at t) is-sound.Post
-is-sound-returns-7 t c = sound-on _ _ _ (c .before .before .before .before .before .before .before .before .before .if1 .left) (c .before .before .before .before .before .before .before .before .entry-at .ensures) (c .before .before .before .before .before .before .entry .given .1) (c .before .before .before .before .if2 .left) (c .before .before .before .if3 .left) (c .before .before .if4 .left) (c .before .if5 .left) (c .is-sound .ensures)
+is-sound-returns-7 t c = sound-on _ _ _ (c .before .before .before .before .before .before .before .before .before .before .if1 .left) (c .before .before .before .before .before .before .before .before .entry-at .ensures) (c .before .before .before .before .before .before .entry .given .1) (c .before .before .before .before .if2 .left) (c .before .before .before .if3 .left) (c .before .before .if4 .left) (c .before .if5 .left) (c .is-sound .ensures)
 
 pub +is-sound-spec : {M : Type 1} → statement M
 +is-sound-spec = close μ-is-sound λ t. is-sound-lts.spec (

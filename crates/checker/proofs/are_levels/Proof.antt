@@ -1,48 +1,76 @@
 use borrow.Author.Needs.{needs}
-use Prim.Native.Nat.{suc, _≤_, _<_, _+_, _-_}
-use mathlib.Core.Path.{_≡_, refl, sym, _∙_}
+use Prim.Native.Nat.{_+_, _-_, _≤_}
+use mathlib.Core.Path.{_≡_, refl, sym, _∙_, ap}
 use native.Mathlib.Omega.{arith}
-use borrow.Author.Tests.{eq-eqb, ne-eqb}
-use lib.Dec.{eqb}
-use lib.ListN.{length, getD}
+use lib.ListN.{length, drop}
+use Rattle.base.specs.Limits.{patternLimit}
+use Rattle.words.specs.Symbols.{symbolsOf}
 use Rattle.liang.specs.Patterns.{levelsFrom}
-use Rattle.right.specs.Test.{allFrom}
-use Rattle.right.proofs.All.{all-start, all-pass, all-fail, all-end}
+use Rattle.patterns.proofs.Laws.{rest-skip, rest-keep, rest-digit}
+use Rattle.checker.specs.Post.{sameLevels}
+use Rattle.checker.proofs.Laws.{same-last, same-digit, same-other, same-differs, same-agrees}
 use Rattle.checker.proofs.are_levels.Statement.{statement}
 use Rattle.checker.proofs.are_levels.Tie as tie
 
 abbrev Inv-loop : tie.InvT-loop
-Inv-loop line m room gap₀ gap = (gap ≤ suc m) × (m + 1 < length room) × (allFrom (λ g. eqb (getD room (g + 1) 0) (getD (levelsFrom 0 line) g 0)) 0 (suc m) ≡ allFrom (λ g. eqb (getD room (g + 1) 0) (getD (levelsFrom 0 line) g 0)) gap (suc m - gap))
+Inv-loop line room gap₀ level₀ i₀ gap level i = (gap + length (symbolsOf (drop i line)) ≤ patternLimit) × (sameLevels room 0 (levelsFrom 0 line) ≡ sameLevels room gap (levelsFrom level (drop i line)))
 
 abbrev μ-loop : tie.MeasureT-loop
-μ-loop line m room gap₀ gap = suc m - gap
+μ-loop line room gap₀ level₀ i₀ gap level i = length line - i
 
 loop-holds : tie.Need-loop-holds Inv-loop μ-loop
-loop-holds c = (search needs, search needs, all-start _ _)
+loop-holds c = (search needs, refl)
 
-add-if1 : tie.Need-add-if1 Inv-loop μ-loop
-add-if1 c = search needs
+shared-slice-read-b : tie.Need-shared-slice-read-b Inv-loop μ-loop
+shared-slice-read-b c = search needs
 
-shared-slice-read-if1 : tie.Need-shared-slice-read-if1 Inv-loop μ-loop
-shared-slice-read-if1 c = search needs
+add-i : tie.Need-add-i Inv-loop μ-loop
+add-i c = search needs
 
-level-at-requires : tie.Need-level-at-requires Inv-loop μ-loop
-level-at-requires c κs = search needs
+is-digit-requires : tie.Need-is-digit-requires Inv-loop μ-loop
+is-digit-requires c κs = search needs
 
-returns : tie.Need-returns Inv-loop μ-loop
-returns c = sym (c .before .before .before .before .loop .inv .2 ∙ all-fail _ _ _ (omega arith) (ne-eqb _ _ (λ e. c .if1 .taken (e ∙ sym (c .before .level-at .ensures)))))
-
-add-gap : tie.Need-add-gap Inv-loop μ-loop
-add-gap c = search needs
+digit-value-requires : tie.Need-digit-value-requires Inv-loop μ-loop
+digit-value-requires c κs = search needs
 
 loop-less : tie.Need-loop-less Inv-loop μ-loop
 loop-less c = search needs
 
 loop-again : tie.Need-loop-again Inv-loop μ-loop
-loop-again c = (search needs, search needs, c .before .before .before .before .loop .inv .2 ∙ all-pass _ _ _ (omega arith) (eq-eqb _ _ (c .if1 .left ∙ c .before .level-at .ensures)))
+loop-again c = (omega (arith, c .before .before .before .before .before .loop .inv .0, ap length (rest-digit (c .before .before .before .before .before .before .before .args .line .now) (c .before .before .before .before .before .loop .i) (c .before .before .before .before .loop-test .taken) (sym (c .before .before .is-digit .ensures) ∙ c .before .if1 .taken))), c .before .before .before .before .before .loop .inv .1 ∙ same-digit _ _ _ _ _ (c .before .before .before .before .loop-test .taken) (sym (c .before .before .is-digit .ensures) ∙ c .before .if1 .taken) (c .digit-value .ensures))
+
+symbol-of-requires : tie.Need-symbol-of-requires Inv-loop μ-loop
+symbol-of-requires c κs = search needs
+
+add-gap : tie.Need-add-gap Inv-loop μ-loop
+add-gap c = omega (arith, c .before .before .before .before .before .before .loop .inv .0, ap length (rest-keep (c .before .before .before .before .before .before .before .before .args .line .now) (c .before .before .before .before .before .before .loop .i) (c .before .before .before .before .before .loop-test .taken) (c .before .symbol-of .ensures) (c .if2 .taken)))
+
+element-copy-out-if3 : tie.Need-element-copy-out-if3 Inv-loop μ-loop
+element-copy-out-if3 c = omega (arith, c .before .before .before .before .before .before .loop .inv .0, ap length (rest-keep (c .before .before .before .before .before .before .before .before .args .line .now) (c .before .before .before .before .before .before .loop .i) (c .before .before .before .before .before .loop-test .taken) (c .before .symbol-of .ensures) (c .if2 .taken)))
+
+returns : tie.Need-returns Inv-loop μ-loop
+returns c = sym (c .before .before .before .before .before .before .before .before .loop .inv .1 ∙ same-differs _ _ _ _ _ (c .before .before .before .before .before .before .before .loop-test .taken) (sym (c .before .before .before .before .before .is-digit .ensures) ∙ c .before .before .before .before .if1 .left) (c .before .before .before .symbol-of .ensures) (c .before .before .if2 .taken) (c .if3 .taken))
+
+loop-less-2 : tie.Need-loop-less-2 Inv-loop μ-loop
+loop-less-2 c = search needs
+
+loop-again-2 : tie.Need-loop-again-2 Inv-loop μ-loop
+loop-again-2 c = (omega (arith, c .before .before .before .before .before .before .before .before .loop .inv .0, ap length (rest-keep (c .before .before .before .before .before .before .before .before .before .before .args .line .now) (c .before .before .before .before .before .before .before .before .loop .i) (c .before .before .before .before .before .before .before .loop-test .taken) (c .before .before .before .symbol-of .ensures) (c .before .before .if2 .taken))), c .before .before .before .before .before .before .before .before .loop .inv .1 ∙ same-agrees _ _ _ _ _ (c .before .before .before .before .before .before .before .loop-test .taken) (sym (c .before .before .before .before .before .is-digit .ensures) ∙ c .before .before .before .before .if1 .left) (c .before .before .before .symbol-of .ensures) (c .before .before .if2 .taken) (c .if3 .left))
+
+loop-less-3 : tie.Need-loop-less-3 Inv-loop μ-loop
+loop-less-3 c = search needs
+
+loop-again-3 : tie.Need-loop-again-3 Inv-loop μ-loop
+loop-again-3 c = (omega (arith, c .before .before .before .before .before .before .loop .inv .0, ap length (rest-skip (c .before .before .before .before .before .before .before .before .args .line .now) (c .before .before .before .before .before .before .loop .i) (c .before .before .before .before .before .loop-test .taken) (c .before .symbol-of .ensures) (c .if2 .left))), c .before .before .before .before .before .before .loop .inv .1 ∙ same-other _ _ _ _ _ (c .before .before .before .before .before .loop-test .taken) (sym (c .before .before .before .is-digit .ensures) ∙ c .before .before .if1 .left) (c .before .symbol-of .ensures) (c .if2 .left))
+
+add-result : tie.Need-add-result Inv-loop μ-loop
+add-result c = search needs
+
+element-copy-out-result : tie.Need-element-copy-out-result Inv-loop μ-loop
+element-copy-out-result c = search needs
 
 returns-2 : tie.Need-returns-2 Inv-loop μ-loop
-returns-2 c = sym (c .before .loop .inv .2 ∙ all-end _ _ _ (omega arith))
+returns-2 c = sym (c .before .before .loop .inv .1 ∙ same-last _ _ _ _ _ (c .before .loop-test .left))
 
 pub are-levels-spec : {M : Type 1} → statement M
 are-levels-spec =
@@ -51,11 +79,20 @@ are-levels-spec =
     Inv-loop
     μ-loop
     loop-holds
-    add-if1
-    shared-slice-read-if1
-    level-at-requires
-    returns
-    add-gap
+    shared-slice-read-b
+    add-i
+    is-digit-requires
+    digit-value-requires
     loop-less
     loop-again
+    symbol-of-requires
+    add-gap
+    element-copy-out-if3
+    returns
+    loop-less-2
+    loop-again-2
+    loop-less-3
+    loop-again-3
+    add-result
+    element-copy-out-result
     returns-2)

@@ -1,79 +1,79 @@
 use borrow.Author.Needs.{needs}
-use Prim.Native.Nat.{_≤_, _-_}
-use mathlib.Core.List.{[], map}
-use mathlib.Core.Path.{_≡_, refl, sym, _∙_}
+use Prim.Native.Nat.{_-_}
+use mathlib.Core.Path.{sym}
 use native.Mathlib.Omega.{arith}
 use borrow.Author.Tests.{not-true, not-false}
-use lib.ListN.{length, take, drop}
-use Rattle.words.specs.Symbols.{symbolsOf}
-use Rattle.lines.specs.Lines.{cut}
-use Rattle.lines.proofs.Laws.{line-starts, line-ends}
-use Rattle.lists.specs.Lists.{firstBad, judgeLines}
-use Rattle.lists.specs.declared.Form.the-variants.{Patterns}
-use Rattle.lists.specs.declared.Lines.the-variants.{Good}
-use Rattle.lists.proofs.Laws.{lines-start}
-use Rattle.liang.specs.Patterns.{patternOf, patternsOf}
-use Rattle.right.specs.Test.{patternsRight}
-use Rattle.checker.proofs.Laws.{line-short, lines-good, lines-begin, lines-wrong, lines-on, lines-done}
+use lib.ListN.{length}
+use Rattle.lines.proofs.Laws.{line-starts}
+use Rattle.checker.proofs.Laws.{Lined, line-in, line-short, lined-start, lined-wrong, lined-on, lined-done}
 use Rattle.checker.proofs.are_lines_right.Statement.{statement}
 use Rattle.checker.proofs.are_lines_right.Tie as tie
 
 abbrev Inv-loop : tie.InvT-loop
-Inv-loop cells entries root text above₀ at₀ above at = (above ≤ at) × (at ≤ length text) × (firstBad Patterns at (take (at - above) (drop above text)) (cut (drop at text)) ≡ Good) × (patternsRight cells entries root [] (patternsOf text) ≡ patternsRight cells entries root (symbolsOf (take (at - above) (drop above text))) (map patternOf (cut (drop at text))))
+Inv-loop cells entries root text known₀ low₀ at₀ end₀ known low at end = Lined cells entries root text known low at end
 
 abbrev μ-loop : tie.MeasureT-loop
-μ-loop cells entries root text above₀ at₀ above at = length text - at
-
-loop-holds : tie.Need-loop-holds Inv-loop μ-loop
-loop-holds c = (search needs, search needs, sym (lines-start _ _) ∙ c .before .before .before .pre, lines-begin _ _ _ _)
+μ-loop cells entries root text known₀ low₀ at₀ end₀ known low at end = length text - at
 
 line-end-requires : tie.Need-line-end-requires Inv-loop μ-loop
 line-end-requires c κs = search needs
 
-sub-shared : tie.Need-sub-shared Inv-loop μ-loop
-sub-shared c = search needs
+loop-holds : tie.Need-loop-holds Inv-loop μ-loop
+loop-holds c = lined-start _ _ _ _ _ (c .before .before .before .before .pre) (c .line-end .ensures)
 
-part-shared-start : tie.Need-part-shared-start Inv-loop μ-loop
-part-shared-start c = search needs
+line-end-requires-2 : tie.Need-line-end-requires-2 Inv-loop μ-loop
+line-end-requires-2 c κs = search needs
 
-part-shared-end : tie.Need-part-shared-end Inv-loop μ-loop
-part-shared-end c = search needs
+sub-part-lines : tie.Need-sub-part-lines Inv-loop μ-loop
+sub-part-lines c = line-in _ _ _ (c .before .before .loop .inv .within) (c .before .before .loop .inv .ends) .0
 
-sub-shared-2 : tie.Need-sub-shared-2 Inv-loop μ-loop
-sub-shared-2 c = omega (arith, line-starts _ _ _ (c .before .before .loop-test .taken) (c .before .line-end .ensures))
+part-part-lines-start : tie.Need-part-part-lines-start Inv-loop μ-loop
+part-part-lines-start c = line-in _ _ _ (c .before .before .loop .inv .within) (c .before .before .loop .inv .ends) .0
 
-part-shared-start-2 : tie.Need-part-shared-start-2 Inv-loop μ-loop
-part-shared-start-2 c = omega (arith, line-starts _ _ _ (c .before .before .loop-test .taken) (c .before .line-end .ensures))
+part-part-lines-end : tie.Need-part-part-lines-end Inv-loop μ-loop
+part-part-lines-end c = line-in _ _ _ (c .before .before .loop .inv .within) (c .before .before .loop .inv .ends) .1
 
-part-shared-end-2 : tie.Need-part-shared-end-2 Inv-loop μ-loop
-part-shared-end-2 c = line-ends _ _ _ (c .before .before .loop-test .taken) (c .before .line-end .ensures)
+sub-part-lines-2 : tie.Need-sub-part-lines-2 Inv-loop μ-loop
+sub-part-lines-2 c = line-in _ _ _ (line-in _ _ _ (c .before .before .before .loop .inv .within) (c .before .before .before .loop .inv .ends) .1) (c .before .line-end2 .ensures) .0
 
-shared-requires : tie.Need-shared-requires Inv-loop μ-loop
-shared-requires c κs = search needs
+part-part-lines-start-2 : tie.Need-part-part-lines-start-2 Inv-loop μ-loop
+part-part-lines-start-2 c = line-in _ _ _ (line-in _ _ _ (c .before .before .before .loop .inv .within) (c .before .before .before .loop .inv .ends) .1) (c .before .line-end2 .ensures) .0
+
+part-part-lines-end-2 : tie.Need-part-part-lines-end-2 Inv-loop μ-loop
+part-part-lines-end-2 c = line-in _ _ _ (line-in _ _ _ (c .before .before .before .loop .inv .within) (c .before .before .before .loop .inv .ends) .1) (c .before .line-end2 .ensures) .1
+
+part-lines-requires : tie.Need-part-lines-requires Inv-loop μ-loop
+part-lines-requires c κs = search needs
 
 sub-is-followed : tie.Need-sub-is-followed Inv-loop μ-loop
-sub-is-followed c = omega (arith, line-starts _ _ _ (c .before .before .before .before .loop-test .taken) (c .before .before .before .line-end .ensures))
+sub-is-followed c = line-in _ _ _ (c .before .before .before .before .before .loop .inv .within) (c .before .before .before .before .before .loop .inv .ends) .0
 
 part-is-followed-start : tie.Need-part-is-followed-start Inv-loop μ-loop
-part-is-followed-start c = omega (arith, line-starts _ _ _ (c .before .before .before .before .loop-test .taken) (c .before .before .before .line-end .ensures))
+part-is-followed-start c = line-in _ _ _ (c .before .before .before .before .before .loop .inv .within) (c .before .before .before .before .before .loop .inv .ends) .0
 
 part-is-followed-end : tie.Need-part-is-followed-end Inv-loop μ-loop
-part-is-followed-end c = line-ends _ _ _ (c .before .before .before .before .loop-test .taken) (c .before .before .before .line-end .ensures)
+part-is-followed-end c = line-in _ _ _ (c .before .before .before .before .before .loop .inv .within) (c .before .before .before .before .before .loop .inv .ends) .1
 
 is-followed-requires : tie.Need-is-followed-requires Inv-loop μ-loop
-is-followed-requires c κs = line-short _ _ _ _ (c .before .before .before .before .before .loop-test .taken) (c .before .before .before .before .line-end .ensures) (c .before .before .before .before .before .before .loop .inv .2)
+is-followed-requires c κs = line-short _ _ _ _ _ _ _ _ (c .before .before .before .before .before .before .loop .inv) (c .before .before .before .before .before .loop-test .taken)
 
 returns : tie.Need-returns Inv-loop μ-loop
-returns c = sym (c .before .before .before .before .before .before .before .before .loop .inv .3 ∙ lines-wrong _ _ _ _ _ _ _ (c .before .before .before .before .before .before .before .loop-test .taken) (c .before .before .before .before .before .before .line-end .ensures) (c .before .before .before .shared .ensures) (c .before .is-followed .ensures) (not-true _ (c .if1 .taken)))
+returns c = sym (lined-wrong _ _ _ _ _ _ _ _ (c .before .before .before .before .before .before .before .before .loop .inv) (c .before .before .before .before .before .before .before .loop-test .taken) _ (c .before .before .before .before .before .before .line-end2 .ensures) (c .before .before .before .part-lines .ensures) (c .before .is-followed .ensures) (not-true _ (c .if1 .taken)))
 
 loop-less : tie.Need-loop-less Inv-loop μ-loop
-loop-less c = omega (arith, line-starts _ _ _ (c .before .before .before .before .before .before .before .loop-test .taken) (c .before .before .before .before .before .before .line-end .ensures))
+loop-less c = omega (arith, line-starts _ _ _ (c .before .before .before .before .before .before .before .loop-test .taken) (c .before .before .before .before .before .before .before .before .loop .inv .ends))
 
 loop-again : tie.Need-loop-again Inv-loop μ-loop
-loop-again c = (omega (arith, line-starts _ _ _ (c .before .before .before .before .before .before .before .loop-test .taken) (c .before .before .before .before .before .before .line-end .ensures)), line-ends _ _ _ (c .before .before .before .before .before .before .before .loop-test .taken) (c .before .before .before .before .before .before .line-end .ensures), lines-good _ _ _ _ (c .before .before .before .before .before .before .before .loop-test .taken) (c .before .before .before .before .before .before .line-end .ensures) (c .before .before .before .before .before .before .before .before .loop .inv .2), c .before .before .before .before .before .before .before .before .loop .inv .3 ∙ lines-on _ _ _ _ _ _ _ (c .before .before .before .before .before .before .before .loop-test .taken) (c .before .before .before .before .before .before .line-end .ensures) (c .before .before .before .shared .ensures) (c .before .is-followed .ensures) (not-false _ (c .if1 .left)))
+loop-again c = lined-on _ _ _ _ _ _ _ _ (c .before .before .before .before .before .before .before .before .loop .inv) (c .before .before .before .before .before .before .before .loop-test .taken) _ (c .before .before .before .before .before .before .line-end2 .ensures) (c .before .before .before .part-lines .ensures) (c .before .is-followed .ensures) (not-false _ (c .if1 .left))
+
+add-is-none-between : tie.Need-add-is-none-between Inv-loop μ-loop
+add-is-none-between c = search needs
+
+is-none-between-requires : tie.Need-is-none-between-requires Inv-loop μ-loop
+is-none-between-requires c κs = search needs
 
 returns-2 : tie.Need-returns-2 Inv-loop μ-loop
-returns-2 c = sym (c .before .loop .inv .3 ∙ lines-done _ _ _ _ _ _ (c .loop-test .left))
+returns-2 c = lined-done _ _ _ _ _ _ _ _ (c .before .before .loop .inv) (c .before .loop-test .left) (c .is-none-between .ensures)
 
 pub are-lines-right-spec : {M : Type 1} → statement M
 are-lines-right-spec =
@@ -81,15 +81,16 @@ are-lines-right-spec =
     (tie.spec
     Inv-loop
     μ-loop
-    loop-holds
     line-end-requires
-    sub-shared
-    part-shared-start
-    part-shared-end
-    sub-shared-2
-    part-shared-start-2
-    part-shared-end-2
-    shared-requires
+    loop-holds
+    line-end-requires-2
+    sub-part-lines
+    part-part-lines-start
+    part-part-lines-end
+    sub-part-lines-2
+    part-part-lines-start-2
+    part-part-lines-end-2
+    part-lines-requires
     sub-is-followed
     part-is-followed-start
     part-is-followed-end
@@ -97,4 +98,6 @@ are-lines-right-spec =
     returns
     loop-less
     loop-again
+    add-is-none-between
+    is-none-between-requires
     returns-2)

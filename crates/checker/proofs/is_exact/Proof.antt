@@ -9,22 +9,19 @@ is-sound-requires : tie.Need-is-sound-requires
 is-sound-requires c κs = search needs
 
 returns : tie.Need-returns
-returns c = exact-faulty _ _ _ _ (c .before .before .before .before .pre) (sym (c .before .is-sound .ensures) ∙ not-true _ (c .if1 .taken))
+returns c = exact-faulty _ (c .before .before .before .before .before .args .line .now) _ _ (c .before .before .before .before .before .pre .0) (c .before .before .before .before .before .pre .1) (sym (c .before .is-sound .ensures) ∙ not-true _ (c .if1 .taken))
 
-slice-aggregate-chain-levels : tie.Need-slice-aggregate-chain-levels
-slice-aggregate-chain-levels c = search needs
+cast-chain-levels : tie.Need-cast-chain-levels
+cast-chain-levels c = search needs
 
 chain-levels-requires : tie.Need-chain-levels-requires
 chain-levels-requires c κs = search needs
-
-slice-aggregate-are-levels : tie.Need-slice-aggregate-are-levels
-slice-aggregate-are-levels c = search needs
 
 are-levels-requires : tie.Need-are-levels-requires
 are-levels-requires c κs = search needs
 
 returns-2 : tie.Need-returns-2
-returns-2 c = exact-levels _ _ _ _ (c .before .before .before .before .before .before .before .before .before .pre) (c .before .before .before .chain-levels .ensures) (c .are-levels .ensures) (sym (c .before .before .before .before .before .before .is-sound .ensures) ∙ not-false _ (c .before .before .before .before .before .if1 .left))
+returns-2 c = exact-levels _ (c .before .before .before .before .before .before .before .before .before .args .line .now) _ _ (c .before .before .before .before .before .before .before .before .before .pre .0) (c .before .before .before .before .before .before .before .before .before .pre .1) (c .before .before .chain-levels .ensures) (c .are-levels .ensures) (sym (c .before .before .before .before .before .is-sound .ensures) ∙ not-false _ (c .before .before .before .before .if1 .left))
 
 pub is-exact-spec : {M : Type 1} → statement M
 is-exact-spec =
@@ -32,8 +29,7 @@ is-exact-spec =
     (tie.spec
     is-sound-requires
     returns
-    slice-aggregate-chain-levels
+    cast-chain-levels
     chain-levels-requires
-    slice-aggregate-are-levels
     are-levels-requires
     returns-2)

@@ -1,7 +1,7 @@
 use borrow.Author.Needs.{needs}
-use mathlib.Core.Path.{refl, sym, _∙_}
+use mathlib.Core.Path.{refl}
 use borrow.Author.Tests.{not-true, not-false}
-use Rattle.checker.proofs.Laws.{right-cells, right-entries, right-root, right-lines}
+use Rattle.checker.proofs.Laws.{right-cells, right-entries, right-lines}
 use Rattle.checker.proofs.is_right.Statement.{statement}
 use Rattle.checker.proofs.is_right.Tie as tie
 
@@ -29,20 +29,11 @@ are-kinds-requires-2 c κs = search needs
 returns-2 : tie.Need-returns-2
 returns-2 c = right-entries _ _ _ (c .before .before .before .before .before .before .before .cells-of .ensures) (c .before .before .before .before .before .before .entries-of .ensures) (c .before .before .before .before .before .cell-count .ensures) (c .before .before .entry-count .ensures) (c .before .before .before .before .are-kinds .ensures) (not-false _ (c .before .before .before .if1 .left)) (c .before .are-kinds2 .ensures) (not-true _ (c .if2 .taken))
 
-slice-aggregate-is-continued : tie.Need-slice-aggregate-is-continued
-slice-aggregate-is-continued c = search needs
-
-is-continued-requires : tie.Need-is-continued-requires
-is-continued-requires c κs = search needs
-
-returns-3 : tie.Need-returns-3
-returns-3 c = right-root _ _ _ (c .before .before .before .before .before .before .before .before .before .before .cells-of .ensures) (c .before .before .before .before .before .before .before .before .before .entries-of .ensures) (c .before .before .before .before .before .before .before .before .cell-count .ensures) (c .before .before .before .before .before .entry-count .ensures) (c .before .before .before .before .before .before .before .are-kinds .ensures) (not-false _ (c .before .before .before .before .before .before .if1 .left)) (c .before .before .before .before .are-kinds2 .ensures) (not-false _ (c .before .before .before .if2 .left)) (c .before .is-continued .ensures) (not-true _ (c .if3 .taken))
-
 are-lines-right-requires : tie.Need-are-lines-right-requires
 are-lines-right-requires c κs = search needs
 
-returns-4 : tie.Need-returns-4
-returns-4 c = right-lines _ _ _ (c .before .before .before .before .before .before .before .before .before .before .before .cells-of .ensures) (c .before .before .before .before .before .before .before .before .before .before .entries-of .ensures) (c .before .before .before .before .before .before .before .before .before .cell-count .ensures) (c .before .before .before .before .before .before .entry-count .ensures) (c .before .before .before .before .before .before .before .before .are-kinds .ensures) (not-false _ (c .before .before .before .before .before .before .before .if1 .left)) (c .before .before .before .before .before .are-kinds2 .ensures) (not-false _ (c .before .before .before .before .if2 .left)) (c .before .before .is-continued .ensures) (not-false _ (c .before .if3 .left)) (c .are-lines-right .ensures)
+returns-3 : tie.Need-returns-3
+returns-3 c = right-lines _ _ _ (c .before .before .before .before .before .before .before .before .cells-of .ensures) (c .before .before .before .before .before .before .before .entries-of .ensures) (c .before .before .before .before .before .before .cell-count .ensures) (c .before .before .before .entry-count .ensures) (c .before .before .before .before .before .are-kinds .ensures) (not-false _ (c .before .before .before .before .if1 .left)) (c .before .before .are-kinds2 .ensures) (not-false _ (c .before .if2 .left)) (c .are-lines-right .ensures)
 
 pub is-right-spec : {M : Type 1} → statement M
 is-right-spec =
@@ -56,8 +47,5 @@ is-right-spec =
     entry-count-requires
     are-kinds-requires-2
     returns-2
-    slice-aggregate-is-continued
-    is-continued-requires
-    returns-3
     are-lines-right-requires
-    returns-4)
+    returns-3)

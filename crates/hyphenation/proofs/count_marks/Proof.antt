@@ -39,6 +39,9 @@ loop-less-2 c = search needs
 loop-again-2 : tie.Need-loop-again-2 Inv-loop μ-loop
 loop-again-2 c = (search needs, search needs, count-zero (c .before .before .before .before .args .room .now) (c .before .before .before .loop .i) (omega (arith, c .before .before .loop-test .taken, c .before .before .before .before .pre)) (c .before .before .loop-test .taken) (c .before .before .before .loop .count) (c .before .before .before .loop .inv .2) (c .if1 .left))
 
+cast-result : tie.Need-cast-result Inv-loop μ-loop
+cast-result c = search needs
+
 returns : tie.Need-returns Inv-loop μ-loop
 returns c = count-end (c .before .before .args .room .now) (c .before .loop .i) (c .before .loop .count) (c .loop-test .left) (c .before .loop .inv .2)
 
@@ -56,4 +59,5 @@ count-marks-spec =
     loop-again
     loop-less-2
     loop-again-2
+    cast-result
     returns)

@@ -1,4 +1,4 @@
-use Rattle.hyphenation.proofs.Calls.{refused, word-fits, found}
+use Rattle.hyphenation.proofs.Calls.{refused, found}
 use mathlib.Core.Path.{sym, _∙_}
 use borrow.Author.Needs.{needs}
 use Rattle.hyphenation.proofs.hyphenate_word.Statement.{statement}
@@ -17,7 +17,7 @@ enum-told : tie.Need-enum-told
 enum-told c = search needs
 
 find-breaks-requires : tie.Need-find-breaks-requires
-find-breaks-requires c κs = (word-fits _ _ (sym (c .before .before .before .judge-word .ensures) ∙ c .before .enum-told .given .1), c .before .before .before .before .before .before .before .before .before .pre)
+find-breaks-requires c κs = (sym (c .before .before .before .judge-word .ensures) ∙ c .before .enum-told .given .1, c .before .before .before .before .before .before .before .before .before .pre)
 
 same-length : tie.Need-same-length
 same-length c = search needs

@@ -9,13 +9,16 @@ use Rattle.lines.proofs.ascends.Statement.{statement}
 use Rattle.lines.proofs.ascends.Tie as tie
 
 abbrev Inv-loop : tie.InvT-loop
-Inv-loop above line i₀ j₀ i j = (i ≤ length above) × (j ≤ length line) × (before (symbolsOf above) (symbolsOf line) ≡ law.linesBefore above i line j)
+Inv-loop above line same i₀ j₀ i j = (i ≤ length above) × (j ≤ length line) × (before (symbolsOf above) (symbolsOf line) ≡ law.linesBefore above i line j)
 
 abbrev μ-loop : tie.MeasureT-loop
-μ-loop above line i₀ j₀ i j = length above - i + (length line - j)
+μ-loop above line same i₀ j₀ i j = length above - i + (length line - j)
+
+same-bytes-requires : tie.Need-same-bytes-requires Inv-loop μ-loop
+same-bytes-requires c κs = search needs
 
 loop-holds : tie.Need-loop-holds Inv-loop μ-loop
-loop-holds c = (search needs, search needs, law.order-start _ _)
+loop-holds c = (c .same-bytes .ensures .0, c .same-bytes .ensures .1, law.order-at _ _ _ (c .same-bytes .ensures .2))
 
 shared-slice-read-symbol-of : tie.Need-shared-slice-read-symbol-of Inv-loop μ-loop
 shared-slice-read-symbol-of c = search needs
@@ -77,6 +80,7 @@ ascends-spec =
     (tie.spec
     Inv-loop
     μ-loop
+    same-bytes-requires
     loop-holds
     shared-slice-read-symbol-of
     symbol-of-requires

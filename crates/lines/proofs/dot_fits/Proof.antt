@@ -1,5 +1,4 @@
 use borrow.Author.Needs.{needs}
-use mathlib.Core.Path.{_∙_}
 use Rattle.lines.proofs.Laws.{dot-out, dot-in}
 use Rattle.lines.proofs.dot_fits.Statement.{statement}
 use Rattle.lines.proofs.dot_fits.Tie as tie

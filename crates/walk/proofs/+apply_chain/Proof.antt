@@ -1,8 +1,8 @@
 use borrow.Author.Needs.{needs}
-use Rattle.walk.proofs.Laws.{chain-stop, chain-ends, chain-goes}
 use Prim.Native.Nat.{ℕ, _<_}
 use borrow.Fn.Kinds.{In}
 use borrow.Fn.PlainCycle.{Measures, is, falls, and}
+use Rattle.walk.proofs.Laws.{chain-stop, chain-ends, chain-goes}
 use Rattle.walk.proofs.apply_chain.Reads as apply-chain
 use Rattle.walk.proofs.apply_chain.Kinds as apply-chain-kinds
 use Rattle.walk.proofs.+apply_chain.Lts-apply_chain as apply-chain-lts
@@ -11,16 +11,16 @@ use Rattle.walk.proofs.apply_entry.Reads as apply-entry-reads
 use Rattle.walk.proofs.+apply_chain.{statement}
 use Rattle.walk.proofs.+apply_chain.Tie.{close}
 
-abbrev μ-apply-chain : Measures 2 apply-chain-kinds.ps ℕ
+abbrev μ-apply-chain : Measures 3 apply-chain-kinds.ps ℕ
 μ-apply-chain κs a = a .1 .0
 
-abbrev apply-chain-at : ℕ → In 2 apply-chain-kinds.ps
+abbrev apply-chain-at : ℕ → In 3 apply-chain-kinds.ps
 apply-chain-at t =
-    and 2 apply-chain-kinds.ps (is 2 apply-chain-kinds.ps μ-apply-chain t) apply-chain.Pre
+    and 3 apply-chain-kinds.ps (is 3 apply-chain-kinds.ps μ-apply-chain t) apply-chain.Pre
 
-abbrev apply-chain-below : ℕ → In 2 apply-chain-kinds.ps
+abbrev apply-chain-below : ℕ → In 3 apply-chain-kinds.ps
 apply-chain-below t =
-    and 2 apply-chain-kinds.ps (falls 2 apply-chain-kinds.ps _<_ μ-apply-chain t) apply-chain.Pre
+    and 3 apply-chain-kinds.ps (falls 3 apply-chain-kinds.ps _<_ μ-apply-chain t) apply-chain.Pre
 
 apply-chain-entry-at-requires : (t : ℕ) → apply-chain-lts.Need-entry-at-requires (
   entry-at-reads.Asked,
@@ -72,16 +72,6 @@ apply-chain-enum-told : (t : ℕ) → apply-chain-lts.Need-enum-told (
 ) (apply-chain-at t) apply-chain.Post
 apply-chain-enum-told t c = search needs
 
-apply-chain-same-length : (t : ℕ) → apply-chain-lts.Need-same-length (
-  entry-at-reads.Asked,
-  entry-at-reads.Learnt,
-  apply-entry-reads.Asked,
-  apply-entry-reads.Learnt,
-  apply-chain-below t,
-  apply-chain.Post,
-) (apply-chain-at t) apply-chain.Post
-apply-chain-same-length t c = search needs
-
 apply-chain-returns : (t : ℕ) → apply-chain-lts.Need-returns (
   entry-at-reads.Asked,
   entry-at-reads.Learnt,
@@ -90,17 +80,7 @@ apply-chain-returns : (t : ℕ) → apply-chain-lts.Need-returns (
   apply-chain-below t,
   apply-chain.Post,
 ) (apply-chain-at t) apply-chain.Post
-apply-chain-returns t c = chain-goes _ _ _ _ _ _ (c .before .before .before .before .before .before .before .before .before .before .before .before .entry-at .ensures) (c .before .before .before .before .before .before .before .before .before .before .entry .given .1) (c .before .before .before .before .before .before .before .apply-entry .ensures) (c .before .before .before .before .if1 .taken) (c .before .before .apply-chain .ensures)
-
-apply-chain-same-length-2 : (t : ℕ) → apply-chain-lts.Need-same-length-2 (
-  entry-at-reads.Asked,
-  entry-at-reads.Learnt,
-  apply-entry-reads.Asked,
-  apply-entry-reads.Learnt,
-  apply-chain-below t,
-  apply-chain.Post,
-) (apply-chain-at t) apply-chain.Post
-apply-chain-same-length-2 t c = search needs
+apply-chain-returns t c = chain-goes _ _ _ _ _ _ (c .before .before .before .before .before .before .before .before .entry-at .ensures) (c .before .before .before .before .before .before .entry .given .1) (c .before .before .before .apply-entry .ensures) (c .before .before .if1 .taken) (c .apply-chain .ensures)
 
 apply-chain-returns-2 : (t : ℕ) → apply-chain-lts.Need-returns-2 (
   entry-at-reads.Asked,
@@ -110,7 +90,7 @@ apply-chain-returns-2 : (t : ℕ) → apply-chain-lts.Need-returns-2 (
   apply-chain-below t,
   apply-chain.Post,
 ) (apply-chain-at t) apply-chain.Post
-apply-chain-returns-2 t c = chain-ends _ _ _ _ _ _ (c .before .before .before .before .before .before .before .before .entry-at .ensures) (c .before .before .before .before .before .before .entry .given .1) (c .before .before .before .apply-entry .ensures) (c .if1 .left)
+apply-chain-returns-2 t c = chain-ends _ _ _ _ _ _ (c .before .before .before .before .before .before .entry-at .ensures) (c .before .before .before .before .entry .given .1) (c .before .apply-entry .ensures) (c .if1 .left)
 
 apply-chain-returns-3 : (t : ℕ) → apply-chain-lts.Need-returns-3 (
   entry-at-reads.Asked,
@@ -138,8 +118,6 @@ pub +apply-chain-spec : {M : Type 1} → statement M
     (apply-chain-apply-entry-requires t)
     (apply-chain-apply-chain-requires t)
     (apply-chain-enum-told t)
-    (apply-chain-same-length t)
     (apply-chain-returns t)
-    (apply-chain-same-length-2 t)
     (apply-chain-returns-2 t)
     (apply-chain-returns-3 t)

@@ -19,13 +19,10 @@ sub-raise-to c = search needs
 raise-to-requires : tie.Need-raise-to-requires
 raise-to-requires c κs = search needs
 
-same-length : tie.Need-same-length
-same-length c = search needs
-
 returns-4 : tie.Need-returns-4
-returns-4 c = c .before .before .raise-to .ensures ∙ entry-sets _ _ _ _ _ _ (c .before .before .before .before .before .before .if1 .left) (c .before .before .before .before .before .if2 .left) (c .before .before .before .before .if3 .left)
+returns-4 c = c .raise-to .ensures ∙ entry-sets _ _ _ _ _ _ (c .before .before .before .before .if1 .left) (c .before .before .before .if2 .left) (c .before .before .if3 .left)
 
 pub apply-entry-spec : {M : Type 1} → statement M
 apply-entry-spec =
     tie.close
-    (tie.spec returns returns-2 returns-3 sub-raise-to raise-to-requires same-length returns-4)
+    (tie.spec returns returns-2 returns-3 sub-raise-to raise-to-requires returns-4)

@@ -1,11 +1,12 @@
 use borrow.Author.Needs.{needs}
 use Prim.Native.Nat.{_≤_, _+_, _-_}
 use mathlib.Core.List.{_∷_}
-use mathlib.Core.Path.{_≡_, sym, _∙_}
+use mathlib.Core.Path.{_≡_}
 use native.Mathlib.Omega.{arith}
 use lib.ListN.{length, take, length-set}
 use Rattle.base.specs.Limits.{edge}
 use Rattle.words.specs.Words.{wordSymbols}
+use Rattle.words.proofs.Laws.{word-letter}
 use Rattle.walk.proofs.Laws.{row-start, row-turn, row-end}
 use Rattle.walk.proofs.Laws.{row-kept}
 use Rattle.walk.proofs.fill_row.Statement.{statement}
@@ -21,16 +22,13 @@ slice-write-row : tie.Need-slice-write-row Inv-loop μ-loop
 slice-write-row c = search needs
 
 loop-holds : tie.Need-loop-holds Inv-loop μ-loop
-loop-holds c = (search needs, search needs, simp length-set (search needs), row-start (c .before .before .args .word .now) (c .before .before .args .row .now) (omega (arith, c .before .before .pre)))
+loop-holds c = (search needs, search needs, simp length-set (search needs), row-start (c .before .before .args .word .now) (c .before .before .args .row .now) (omega (arith, c .before .before .pre .1)))
 
-shared-slice-read-lower-of : tie.Need-shared-slice-read-lower-of Inv-loop μ-loop
-shared-slice-read-lower-of c = search needs
+shared-slice-read-letter-symbol : tie.Need-shared-slice-read-letter-symbol Inv-loop μ-loop
+shared-slice-read-letter-symbol c = search needs
 
-lower-of-requires : tie.Need-lower-of-requires Inv-loop μ-loop
-lower-of-requires c κs = search needs
-
-symbol-of-requires : tie.Need-symbol-of-requires Inv-loop μ-loop
-symbol-of-requires c κs = search needs
+letter-symbol-requires : tie.Need-letter-symbol-requires Inv-loop μ-loop
+letter-symbol-requires c κs = word-letter _ _ (c .before .before .before .before .before .pre .0) _ (c .before .loop-test .taken)
 
 add-row : tie.Need-add-row Inv-loop μ-loop
 add-row c = search needs
@@ -45,7 +43,7 @@ loop-less : tie.Need-loop-less Inv-loop μ-loop
 loop-less c = search needs
 
 loop-again : tie.Need-loop-again Inv-loop μ-loop
-loop-again c = (search needs, simp length-set (simp length-set at (c .before .before .before .before .loop .inv .1)), search needs, row-turn (c .before .before .before .before .before .before .before .args .word .now) (c .before .before .before .before .loop .row) (c .before .before .before .before .loop .i) (c .before .before .before .loop-test .taken) (omega (arith, c .before .before .before .before .loop .inv .1, c .before .before .before .before .loop .inv .2, c .before .before .before .loop-test .taken)) (c .before .before .before .before .loop .inv .3) (c .before .lower-of .ensures) (c .symbol-of .ensures))
+loop-again c = (search needs, simp length-set (simp length-set at (c .before .before .before .loop .inv .1)), search needs, row-turn (c .before .before .before .before .before .before .args .word .now) (c .before .before .before .loop .row) (c .before .before .before .loop .i) (c .before .before .loop-test .taken) (omega (arith, c .before .before .before .loop .inv .1, c .before .before .before .loop .inv .2, c .before .before .loop-test .taken)) (c .before .before .before .loop .inv .3) (c .letter-symbol .ensures))
 
 add-row-2 : tie.Need-add-row-2 Inv-loop μ-loop
 add-row-2 c = search needs
@@ -67,9 +65,8 @@ fill-row-spec =
     μ-loop
     slice-write-row
     loop-holds
-    shared-slice-read-lower-of
-    lower-of-requires
-    symbol-of-requires
+    shared-slice-read-letter-symbol
+    letter-symbol-requires
     add-row
     slice-write-row-2
     add-i

@@ -1,0 +1,88 @@
+use borrow.Author.Needs.{needs}
+use Prim.Native.Nat.{_-_}
+use mathlib.Core.Path.{sym, _∙_}
+use lib.ListN.{length}
+use Rattle.lines.proofs.Laws as law
+use Rattle.lines.proofs.exception_end.Statement.{statement}
+use Rattle.lines.proofs.exception_end.Tie as tie
+
+abbrev Inv-loop : tie.InvT-loop
+Inv-loop text at run₀ hyphens₀ i₀ run hyphens i = law.Lettered text at run hyphens i
+
+abbrev μ-loop : tie.MeasureT-loop
+μ-loop text at run₀ hyphens₀ i₀ run hyphens i = length text - i
+
+loop-holds : tie.Need-loop-holds Inv-loop μ-loop
+loop-holds c = law.lettered-start _ _
+
+shared-slice-read-b : tie.Need-shared-slice-read-b Inv-loop μ-loop
+shared-slice-read-b c = search needs
+
+is-small-requires : tie.Need-is-small-requires Inv-loop μ-loop
+is-small-requires c κs = search needs
+
+add-i : tie.Need-add-i Inv-loop μ-loop
+add-i c = search needs
+
+loop-less : tie.Need-loop-less Inv-loop μ-loop
+loop-less c = search needs
+
+loop-again : tie.Need-loop-again Inv-loop μ-loop
+loop-again c = law.lettered-on _ _ _ _ _ (c .before .before .before .before .loop .inv) (c .before .before .before .loop-test .taken) (sym (c .before .is-small .ensures) ∙ c .if1 .taken)
+
+returns : tie.Need-returns Inv-loop μ-loop
+returns c = law.end-bad _ (law.lettered-lone _ _ _ _ _ (c .before .before .before .before .before .loop .inv) (c .before .before .before .before .loop-test .taken) (sym (c .before .before .is-small .ensures) ∙ c .before .if1 .left) (c .if2 .taken))
+
+sub-letters : tie.Need-sub-letters Inv-loop μ-loop
+sub-letters c = search needs
+
+sub-letters-2 : tie.Need-sub-letters-2 Inv-loop μ-loop
+sub-letters-2 c = search needs
+
+add-i-2 : tie.Need-add-i-2 Inv-loop μ-loop
+add-i-2 c = search needs
+
+add-hyphens : tie.Need-add-hyphens Inv-loop μ-loop
+add-hyphens c = search needs
+
+loop-less-2 : tie.Need-loop-less-2 Inv-loop μ-loop
+loop-less-2 c = search needs
+
+loop-again-2 : tie.Need-loop-again-2 Inv-loop μ-loop
+loop-again-2 c = law.lettered-hyphen _ _ _ _ _ (c .before .before .before .before .before .before .loop .inv) (c .before .before .before .before .before .loop-test .taken) (sym (c .before .before .before .is-small .ensures) ∙ c .before .before .if1 .left) (c .before .if2 .left) (c .if3 .taken)
+
+returns-2 : tie.Need-returns-2 Inv-loop μ-loop
+returns-2 c = law.end-bad _ (law.lettered-other _ _ _ _ _ (c .before .before .before .before .before .before .before .loop .inv) (c .before .before .before .before .before .before .loop-test .taken) (sym (c .before .before .before .before .is-small .ensures) ∙ c .before .before .before .if1 .left) (c .before .before .if2 .left) (c .before .if3 .left) (c .if4 .taken))
+
+returns-3 : tie.Need-returns-3 Inv-loop μ-loop
+returns-3 c = law.end-bad _ (law.lettered-long _ _ _ _ _ (c .before .before .before .before .before .before .before .before .loop .inv) (c .before .before .before .before .before .before .before .loop-test .taken) (sym (c .before .before .before .before .before .is-small .ensures) ∙ c .before .before .before .before .if1 .left) (c .before .before .before .if2 .left) (c .before .before .if3 .left) (c .before .if4 .left) (c .if5 .taken))
+
+returns-4 : tie.Need-returns-4 Inv-loop μ-loop
+returns-4 c = law.end-good (law.lettered-whole _ _ _ _ _ (c .before .before .before .before .before .before .before .before .loop .inv) (c .before .before .before .before .before .before .before .loop-test .taken) (sym (c .before .before .before .before .before .is-small .ensures) ∙ c .before .before .before .before .if1 .left) (c .before .before .before .if2 .left) (c .before .before .if3 .left) (c .before .if4 .left) (c .if5 .left)) (law.end-here _ _ _ (c .before .before .before .before .before .before .before .before .loop .inv .ends) (c .before .before .before .before .before .before .before .loop-test .taken) (c .before .if4 .left))
+
+returns-5 : tie.Need-returns-5 Inv-loop μ-loop
+returns-5 c = law.end-bad _ (law.lettered-out _ _ _ _ _ (c .before .loop .inv) (c .loop-test .left))
+
+pub exception-end-spec : {M : Type 1} → statement M
+exception-end-spec =
+    tie.close
+    (tie.spec
+    Inv-loop
+    μ-loop
+    loop-holds
+    shared-slice-read-b
+    is-small-requires
+    add-i
+    loop-less
+    loop-again
+    returns
+    sub-letters
+    sub-letters-2
+    add-i-2
+    add-hyphens
+    loop-less-2
+    loop-again-2
+    returns-2
+    returns-3
+    returns-4
+    returns-5)

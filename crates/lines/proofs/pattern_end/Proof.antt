@@ -1,0 +1,111 @@
+use borrow.Author.Needs.{needs}
+use Prim.Native.Nat.{_+_, _≤_, _-_}
+use mathlib.Core.Path.{_≡_, refl, sym, _∙_}
+use native.Mathlib.Omega.{arith}
+use borrow.Author.Tests.{not-true, not-false}
+use lib.ListN.{length, drop}
+use Rattle.lines.specs.Lines.{lineLength, firstLine, goodPattern}
+use Rattle.lines.proofs.Laws as law
+use Rattle.lines.proofs.pattern_end.Statement.{statement}
+use Rattle.lines.proofs.pattern_end.Tie as tie
+
+abbrev Inv-loop : tie.InvT-loop
+Inv-loop text at opening₀ after-digit₀ letters₀ digits₀ count₀ i₀ opening after-digit letters digits count i = (count ≤ i) × (at + lineLength (drop at text) ≡ i + lineLength (drop i text)) × (goodPattern (firstLine (drop at text)) ≡ law.patternRest opening after-digit letters digits count (firstLine (drop i text)))
+
+abbrev μ-loop : tie.MeasureT-loop
+μ-loop text at opening₀ after-digit₀ letters₀ digits₀ count₀ i₀ opening after-digit letters digits count i = length text - i
+
+loop-holds : tie.Need-loop-holds Inv-loop μ-loop
+loop-holds c = (search needs, refl, law.pattern-start _)
+
+shared-slice-read-b : tie.Need-shared-slice-read-b Inv-loop μ-loop
+shared-slice-read-b c = search needs
+
+add-i : tie.Need-add-i Inv-loop μ-loop
+add-i c = search needs
+
+is-small-requires : tie.Need-is-small-requires Inv-loop μ-loop
+is-small-requires c κs = search needs
+
+add-count : tie.Need-add-count Inv-loop μ-loop
+add-count c = search needs
+
+loop-less : tie.Need-loop-less Inv-loop μ-loop
+loop-less c = search needs
+
+loop-again : tie.Need-loop-again Inv-loop μ-loop
+loop-again c = (search needs, law.end-on _ _ _ (c .before .before .before .before .loop .inv .1) (c .before .before .before .loop-test .taken) (law.small-not-feed _ (sym (c .before .is-small .ensures) ∙ c .if1 .taken)), c .before .before .before .before .loop .inv .2 ∙ law.pattern-letter _ _ (c .before .before .before .loop-test .taken) _ _ _ _ _ (sym (c .before .is-small .ensures) ∙ c .if1 .taken))
+
+is-digit-requires : tie.Need-is-digit-requires Inv-loop μ-loop
+is-digit-requires c κs = search needs
+
+returns : tie.Need-returns Inv-loop μ-loop
+returns c = law.end-bad _ (c .before .before .before .before .before .before .before .loop .inv .2 ∙ law.pattern-digits _ _ (c .before .before .before .before .before .before .loop-test .taken) _ _ _ _ _ (sym (c .before .before .before .before .is-small .ensures) ∙ c .before .before .before .if1 .left) (sym (c .before .before .is-digit .ensures) ∙ c .before .if2 .taken) (c .if3 .taken))
+
+loop-less-2 : tie.Need-loop-less-2 Inv-loop μ-loop
+loop-less-2 c = search needs
+
+loop-again-2 : tie.Need-loop-again-2 Inv-loop μ-loop
+loop-again-2 c = (search needs, law.end-on _ _ _ (c .before .before .before .before .before .before .before .loop .inv .1) (c .before .before .before .before .before .before .loop-test .taken) (law.digit-not-feed _ (sym (c .before .before .is-digit .ensures) ∙ c .before .if2 .taken)), c .before .before .before .before .before .before .before .loop .inv .2 ∙ law.pattern-digit _ _ (c .before .before .before .before .before .before .loop-test .taken) _ _ _ _ _ (sym (c .before .before .before .before .is-small .ensures) ∙ c .before .before .before .if1 .left) (sym (c .before .before .is-digit .ensures) ∙ c .before .if2 .taken) (c .if3 .left))
+
+dot-fits-requires : tie.Need-dot-fits-requires Inv-loop μ-loop
+dot-fits-requires c κs = search needs
+
+returns-2 : tie.Need-returns-2 Inv-loop μ-loop
+returns-2 c = law.end-bad _ (c .before .before .before .before .before .before .before .before .before .loop .inv .2 ∙ law.pattern-no-dot _ _ (c .before .before .before .before .before .before .before .before .loop-test .taken) _ _ _ _ _ (sym (c .before .before .before .before .before .before .is-small .ensures) ∙ c .before .before .before .before .before .if1 .left) (sym (c .before .before .before .before .is-digit .ensures) ∙ c .before .before .before .if2 .left) (c .before .before .if4 .taken) (sym (c .before .dot-fits .ensures) ∙ not-true _ (c .if5 .taken)))
+
+add-count-2 : tie.Need-add-count-2 Inv-loop μ-loop
+add-count-2 c = search needs
+
+loop-less-3 : tie.Need-loop-less-3 Inv-loop μ-loop
+loop-less-3 c = search needs
+
+loop-again-3 : tie.Need-loop-again-3 Inv-loop μ-loop
+loop-again-3 c = (search needs, law.end-on _ _ _ (c .before .before .before .before .before .before .before .before .before .loop .inv .1) (c .before .before .before .before .before .before .before .before .loop-test .taken) (λ f. omega (arith, f, c .before .before .if4 .taken)), c .before .before .before .before .before .before .before .before .before .loop .inv .2 ∙ law.pattern-dot _ _ (c .before .before .before .before .before .before .before .before .loop-test .taken) _ _ _ _ _ (sym (c .before .before .before .before .before .before .is-small .ensures) ∙ c .before .before .before .before .before .if1 .left) (sym (c .before .before .before .before .is-digit .ensures) ∙ c .before .before .before .if2 .left) (c .before .before .if4 .taken) (sym (c .before .dot-fits .ensures) ∙ not-false _ (c .if5 .left)))
+
+returns-3 : tie.Need-returns-3 Inv-loop μ-loop
+returns-3 c = law.end-bad _ (c .before .before .before .before .before .before .before .before .loop .inv .2 ∙ law.pattern-other _ _ (c .before .before .before .before .before .before .before .loop-test .taken) _ _ _ _ _ (sym (c .before .before .before .before .before .is-small .ensures) ∙ c .before .before .before .before .if1 .left) (sym (c .before .before .before .is-digit .ensures) ∙ c .before .before .if2 .left) (c .before .if4 .left) (c .if6 .taken))
+
+returns-4 : tie.Need-returns-4 Inv-loop μ-loop
+returns-4 c = law.end-bad _ (c .before .before .before .before .before .before .before .before .before .loop .inv .2 ∙ law.pattern-letterless _ _ (c .before .before .before .before .before .before .before .before .loop-test .taken) _ _ _ _ _ (sym (c .before .before .before .before .before .before .is-small .ensures) ∙ c .before .before .before .before .before .if1 .left) (sym (c .before .before .before .before .is-digit .ensures) ∙ c .before .before .before .if2 .left) (c .before .before .if4 .left) (c .before .if6 .left) (c .if7 .taken))
+
+returns-5 : tie.Need-returns-5 Inv-loop μ-loop
+returns-5 c = law.end-bad _ (c .before .before .before .before .before .before .before .before .before .before .loop .inv .2 ∙ law.pattern-digitless _ _ (c .before .before .before .before .before .before .before .before .before .loop-test .taken) _ _ _ _ _ (sym (c .before .before .before .before .before .before .before .is-small .ensures) ∙ c .before .before .before .before .before .before .if1 .left) (sym (c .before .before .before .before .before .is-digit .ensures) ∙ c .before .before .before .before .if2 .left) (c .before .before .before .if4 .left) (c .before .before .if6 .left) (c .before .if7 .left) (c .if8 .taken))
+
+returns-6 : tie.Need-returns-6 Inv-loop μ-loop
+returns-6 c = law.end-bad _ (c .before .before .before .before .before .before .before .before .before .before .before .loop .inv .2 ∙ law.pattern-long _ _ (c .before .before .before .before .before .before .before .before .before .before .loop-test .taken) _ _ _ _ _ (sym (c .before .before .before .before .before .before .before .before .is-small .ensures) ∙ c .before .before .before .before .before .before .before .if1 .left) (sym (c .before .before .before .before .before .before .is-digit .ensures) ∙ c .before .before .before .before .before .if2 .left) (c .before .before .before .before .if4 .left) (c .before .before .before .if6 .left) (c .before .before .if7 .left) (c .before .if8 .left) (c .if9 .taken))
+
+returns-7 : tie.Need-returns-7 Inv-loop μ-loop
+returns-7 c = law.end-good (c .before .before .before .before .before .before .before .before .before .before .before .loop .inv .2 ∙ law.pattern-whole _ _ (c .before .before .before .before .before .before .before .before .before .before .loop-test .taken) _ _ _ _ _ (sym (c .before .before .before .before .before .before .before .before .is-small .ensures) ∙ c .before .before .before .before .before .before .before .if1 .left) (sym (c .before .before .before .before .before .before .is-digit .ensures) ∙ c .before .before .before .before .before .if2 .left) (c .before .before .before .before .if4 .left) (c .before .before .before .if6 .left) (c .before .before .if7 .left) (c .before .if8 .left) (c .if9 .left)) (law.end-here _ _ _ (c .before .before .before .before .before .before .before .before .before .before .before .loop .inv .1) (c .before .before .before .before .before .before .before .before .before .before .loop-test .taken) (c .before .before .before .if6 .left))
+
+returns-8 : tie.Need-returns-8 Inv-loop μ-loop
+returns-8 c = law.end-bad _ (c .before .loop .inv .2 ∙ law.pattern-end _ _ _ _ _ _ _ (c .loop-test .left))
+
+pub pattern-end-spec : {M : Type 1} → statement M
+pattern-end-spec =
+    tie.close
+    (tie.spec
+    Inv-loop
+    μ-loop
+    loop-holds
+    shared-slice-read-b
+    add-i
+    is-small-requires
+    add-count
+    loop-less
+    loop-again
+    is-digit-requires
+    returns
+    loop-less-2
+    loop-again-2
+    dot-fits-requires
+    returns-2
+    add-count-2
+    loop-less-3
+    loop-again-3
+    returns-3
+    returns-4
+    returns-5
+    returns-6
+    returns-7
+    returns-8)
