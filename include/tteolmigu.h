@@ -7,9 +7,12 @@
  *
  * Lent memory. Every text, table and room is a pointer and a size in bytes. A pointer must not be null, even where the size is 0, and
  * must have as many bytes as the size says. Only 'room' is written; it must not overlap any other argument. Texts and tables may hold
- * any bytes: each call ends with a finding or with a numbered refusal, whatever they hold. Pack takes some 20 KB of stack. Levels,
- * hyphenate and check follow a chain of entries by nested calls, at most 2,048 of 64 bytes each as compiled today: 128 KB for a table
- * with as many entries as there may be, and little for the tables that pack makes.
+ * any bytes: each call ends with a finding or with a numbered refusal, whatever they hold.
+ *
+ * Stack. Pack takes at most TTEOLMIGU_PACK_STACK bytes and every other call at most TTEOLMIGU_STACK, whatever texts and tables hold.
+ * As compiled today no function calls itself, so that a chain of 2,048 entries takes no more than a single entry. This isn't proved;
+ * tests/stack holds the archive to it, with the longest chains and the fullest lists. Where a program's symbols are bound lazily, the
+ * loader takes stack of its own besides, once, at the first memset or memcpy.
  *
  * Answers. Each call returns one number of 64 bits. Bits 56 to 63 are 0 for a finding, else the number of the ground on which the call
  * refuses. A refusal tells in bits 48 to 55 the exception list it speaks of (1 the customer's, 2 the house's, 0 none) and in bits 0 to
@@ -44,6 +47,10 @@ extern "C" {
 /* Sizes that a caller needs for its rooms. */
 #define TTEOLMIGU_ROOM 64u          /* a break or level room has at least so many bytes */
 #define TTEOLMIGU_PACK_ROOM 59398u  /* a pack room has at least so many bytes, and no table has more */
+
+/* Stack in bytes that a call takes at most: what tests/stack sees, with some air. */
+#define TTEOLMIGU_STACK 1024u        /* hyphenate, levels, check and lookup */
+#define TTEOLMIGU_PACK_STACK 20480u  /* pack, which has its arrays there */
 
 /* The numbers of the grounds, as listed above. */
 enum tteolmigu_ground {

@@ -1,0 +1,589 @@
+/*
+ * The stack that the calls take, on input as hostile as it can be made.
+ *
+ * Each case runs twice: on the main thread, where its answer must be that of document 01, and in a child, on a thread with little
+ * stack, where answer and room must be the same. That stack is lent by the test. It has LIMIT bytes (for pack its arrays' size more)
+ * beyond what a thread with nothing to do takes, and below it lies memory that nobody may touch. It is coloured before, so that
+ * afterwards one sees how deep it was used; no call may take more than the header says.
+ */
+#include "tteolmigu.h"
+
+#include <limits.h>
+#include <pthread.h>
+#include <signal.h>
+#include <stdio.h>
+#include <stdlib.h>
+#include <string.h>
+#include <sys/mman.h>
+#include <sys/wait.h>
+#include <unistd.h>
+
+#define LIMIT 16384u                   /* every call's stack, without the packer's arrays */
+#define ARRAYS (10240u + 8192u + 28u)  /* the packer's: entries, taken bases, a mask */
+#define ALIGN 64u                      /* thread data wants a stack's end aligned so */
+#define WIDE 262144u                   /* all of the lent memory; a thread gets its lower part */
+#define GUARD 65536u                   /* below it; more than any frame, so that none steps over it */
+#define COLOUR 0xa5
+#define OLD 7                          /* what rooms hold before a call */
+
+#define CELLS 8192u
+#define ENTRIES 2048u
+#define LETTERS 63u
+#define LONGEST 16u
+#define PATTERNS 32768u
+#define EXCEPTIONS 8192u
+
+enum call { NOTHING, TAKE, HYPHENATE, LEVELS, PACK, CHECK, LOOKUP, CALLS };
+
+static const char *const names[CALLS] = {"nothing", "take", "hyphenate", "levels", "pack", "check", "lookup"};
+
+struct bytes {
+    uint8_t *at;
+    size_t size;
+};
+
+/* One case: a call and what it is lent. What a call doesn't take is left out. */
+struct job {
+    enum call call;
+    struct bytes word, customer, house, list, table;
+};
+
+/* What a child tells; its memory is shared with the parent. */
+struct told {
+    uint64_t answer;
+    int same_room;
+    size_t thread; /* bytes that the whole thread took */
+    size_t below;  /* bytes below the frame of the thread's function, which makes the call */
+};
+
+static int passed = 0;
+static int failed = 0;
+static uint8_t room[TTEOLMIGU_PACK_ROOM];
+static uint8_t other_room[TTEOLMIGU_PACK_ROOM];
+static uint8_t *stack;       /* the lowest byte that may be used */
+static struct told *told;
+static struct told empty;    /* of a thread with nothing to do */
+static size_t most[CALLS];   /* the largest 'below' of each call */
+static size_t beyond[CALLS]; /* the largest number of bytes that a thread took beyond the empty one */
+
+static void expect(const char *call, const char *what, const char *how, int fact)
+{
+    if (fact) {
+        passed++;
+    } else {
+        failed++;
+        printf("stack: FAILED: %s, %s: %s\n", call, what, how);
+    }
+}
+
+/* Takes at least so many bytes of stack, to see that the test sees it. */
+static __attribute__((noinline)) uint64_t take(size_t size)
+{
+    volatile uint8_t bytes[size];
+
+    for (size_t i = size; i > 0; i--)
+        bytes[i - 1] = 1;
+    return bytes[0];
+}
+
+static uint64_t make_call(const struct job *job, uint8_t *marks)
+{
+    switch (job->call) {
+    case TAKE:
+        return take(job->word.size);
+    case HYPHENATE:
+        return tteolmigu_hyphenate(1, 1, job->word.at, job->word.size, job->customer.at, job->customer.size, job->house.at,
+                                   job->house.size, job->table.at, job->table.size, marks, TTEOLMIGU_ROOM);
+    case LEVELS:
+        return tteolmigu_levels(job->word.at, job->word.size, job->table.at, job->table.size, marks, TTEOLMIGU_ROOM);
+    case PACK:
+        return tteolmigu_pack(job->list.at, job->list.size, marks, TTEOLMIGU_PACK_ROOM);
+    case CHECK:
+        return tteolmigu_check(job->list.at, job->list.size, job->table.at, job->table.size);
+    case LOOKUP:
+        return tteolmigu_lookup(job->word.at, job->word.size, job->customer.at, job->customer.size, job->house.at,
+                                job->house.size);
+    default:
+        return 0;
+    }
+}
+
+static uint8_t *frame;
+
+static void *on_thread(void *job)
+{
+    frame = __builtin_frame_address(0);
+    told->answer = make_call(job, other_room);
+    return NULL;
+}
+
+/* In a child: the case on a thread with so many bytes of stack. */
+static int in_child(struct job *job, size_t size)
+{
+    pthread_attr_t attributes;
+    pthread_t thread;
+    size_t unused = 0;
+
+    memset(stack, COLOUR, size);
+    memset(other_room, OLD, sizeof other_room);
+    if (pthread_attr_init(&attributes) != 0 || pthread_attr_setstack(&attributes, stack, size) != 0 ||
+        pthread_create(&thread, &attributes, on_thread, job) != 0 || pthread_join(thread, NULL) != 0)
+        return 1;
+    while (unused < size && stack[unused] == COLOUR)
+        unused++;
+    told->thread = size - unused;
+    told->below = (size_t)(frame - (stack + unused));
+    told->same_room = memcmp(room, other_room, sizeof room) == 0;
+    return 0;
+}
+
+/* Runs a case in a child, so that a stack that runs over ends the child alone: 0, or the signal that ended it, or -1. */
+static int apart(struct job *job, size_t size)
+{
+    int status = 0;
+    pid_t child = fork();
+
+    if (child == 0) {
+        alarm(60);
+        _exit(in_child(job, size));
+    }
+    if (child < 0 || waitpid(child, &status, 0) != child)
+        return -1;
+    if (WIFSIGNALED(status))
+        return WTERMSIG(status);
+    return WEXITSTATUS(status) == 0 ? 0 : -1;
+}
+
+/* The stack of a call's thread. Its end must be aligned for thread data; the header's limits are held to the byte. */
+static size_t size_for(enum call call)
+{
+    size_t size = empty.thread + LIMIT + (call == PACK ? ARRAYS : 0);
+
+    if (size < (size_t)PTHREAD_STACK_MIN)
+        size = (size_t)PTHREAD_STACK_MIN;
+    return (size + ALIGN - 1) / ALIGN * ALIGN;
+}
+
+/* One case with the answer that it must give. The room is left as on the main thread. */
+static void one(const char *what, struct job job, uint64_t want)
+{
+    const char *name = names[job.call];
+    size_t most_allowed = job.call == PACK ? TTEOLMIGU_PACK_STACK : TTEOLMIGU_STACK;
+    int ended;
+
+    memset(room, OLD, sizeof room);
+    expect(name, what, "another answer", make_call(&job, room) == want);
+    ended = apart(&job, size_for(job.call));
+    expect(name, what, ended == SIGSEGV ? "the stack runs over" : "no end on a thread", ended == 0);
+    /* Where it runs over, more of it shows by how much. */
+    if (ended == 0 || apart(&job, WIDE) == 0) {
+        expect(name, what, "another answer or room on a thread", told->answer == want && told->same_room);
+        expect(name, what, "more stack than the header says", told->below <= most_allowed);
+        if (most[job.call] < told->below)
+            most[job.call] = told->below;
+        if (beyond[job.call] < told->thread - empty.thread)
+            beyond[job.call] = told->thread - empty.thread;
+    }
+}
+
+/* A finding of our cases has this mark at every gap of a word of 63 letters; a refusal leaves the room alone. */
+static void marks_are(const char *what, uint64_t want, uint8_t mark)
+{
+    uint8_t sheet[TTEOLMIGU_ROOM];
+
+    memset(sheet, tteolmigu_number(want) == 0 ? mark : OLD, sizeof sheet);
+    if (tteolmigu_number(want) == 0)
+        sheet[0] = sheet[LETTERS] = 0;
+    expect("room", what, "other marks", memcmp(room, sheet, sizeof sheet) == 0);
+}
+
+static void hyphenate(const char *what, struct bytes word, struct bytes customer, struct bytes house, struct bytes table,
+                      uint64_t want)
+{
+    one(what, (struct job){.call = HYPHENATE, .word = word, .customer = customer, .house = house, .table = table}, want);
+    marks_are(what, want, 1);
+}
+
+static void levels(const char *what, struct bytes word, struct bytes table, uint64_t want)
+{
+    one(what, (struct job){.call = LEVELS, .word = word, .table = table}, want);
+    marks_are(what, want, 9);
+}
+
+static void pack(const char *what, struct bytes list, uint64_t want)
+{
+    one(what, (struct job){.call = PACK, .list = list}, want);
+}
+
+static void check(const char *what, struct bytes list, struct bytes table, uint64_t want)
+{
+    one(what, (struct job){.call = CHECK, .list = list, .table = table}, want);
+}
+
+static void lookup(const char *what, struct bytes word, struct bytes customer, struct bytes house, uint64_t want)
+{
+    one(what, (struct job){.call = LOOKUP, .word = word, .customer = customer, .house = house}, want);
+}
+
+static uint64_t refusal(uint64_t ground, uint64_t list, uint64_t place)
+{
+    return ground << 56 | list << 48 | place;
+}
+
+static uint64_t finding(uint64_t marks, uint64_t looks)
+{
+    return marks << 32 | looks;
+}
+
+/* Texts and tables are made once and live as long as the test. */
+static struct bytes fresh(size_t size)
+{
+    struct bytes made = {malloc(size), size};
+
+    if (made.at == NULL)
+        exit(2);
+    memset(made.at, 0, size);
+    return made;
+}
+
+static struct bytes copy(struct bytes bytes)
+{
+    struct bytes made = fresh(bytes.size);
+
+    memcpy(made.at, bytes.at, bytes.size);
+    return made;
+}
+
+/* The same with one byte changed. */
+static struct bytes with(struct bytes bytes, size_t place, uint8_t byte)
+{
+    struct bytes made = copy(bytes);
+
+    made.at[place] = byte;
+    return made;
+}
+
+/* The same with one byte more, which no text of full size may have. */
+static struct bytes longer(struct bytes bytes)
+{
+    struct bytes made = fresh(bytes.size + 1);
+
+    memcpy(made.at, bytes.at, bytes.size);
+    made.at[bytes.size] = '\n';
+    return made;
+}
+
+/* So many letters that count, after a beginning of equal ones. */
+static void count(uint8_t *letters, size_t size, size_t digits, size_t number)
+{
+    memset(letters, 'a', size);
+    for (size_t i = 0; i < digits; i++, number /= 26)
+        letters[size - 1 - i] = (uint8_t)('a' + number % 26);
+}
+
+/*
+ * A full exception list: a line of one letter, then 65 of 63 letters with a hyphen at every gap. These count from a number on, so that
+ * they differ in the last two letters only.
+ */
+#define LINE (2 * LETTERS)
+#define LINES ((EXCEPTIONS - 2) / LINE)
+
+static struct bytes exceptions(size_t from)
+{
+    struct bytes list = fresh(EXCEPTIONS);
+    uint8_t letters[LETTERS], *at = list.at;
+
+    *at++ = 'a';
+    *at++ = '\n';
+    for (size_t line = 0; line < LINES; line++) {
+        count(letters, LETTERS, 2, from + line);
+        for (size_t i = 0; i < LETTERS; i++) {
+            *at++ = letters[i];
+            *at++ = i + 1 < LETTERS ? '-' : '\n';
+        }
+    }
+    return list;
+}
+
+/* Three letters in all orders, as tests/programs has them: a pattern list of the largest size that is packed. */
+static struct bytes triples(void)
+{
+    struct bytes list = fresh(PATTERNS);
+    size_t line = 0;
+
+    for (; 5 * line + 8 < PATTERNS; line++) {
+        count(list.at + 5 * line, 3, 3, line);
+        memcpy(list.at + 5 * line + 3, "1\n", 2);
+    }
+    memcpy(list.at + 5 * line, "zzzzzz1\n", 8);
+    return list;
+}
+
+/* Sixteen letters a line, of which the first three count, so that each line needs thirteen cells of its own. */
+static struct bytes many_cells(void)
+{
+    struct bytes list = fresh(PATTERNS);
+    size_t line = 0;
+
+    for (; 18 * line + 8 < PATTERNS; line++) {
+        memset(list.at + 18 * line, 'a', LONGEST);
+        count(list.at + 18 * line, 3, 3, line);
+        memcpy(list.at + 18 * line + LONGEST, "1\n", 2);
+    }
+    memcpy(list.at + 18 * line, "zzzzzz1\n", 8);
+    return list;
+}
+
+/*
+ * Sixteen letters a line, of which the last three count, with a digit at each of the seventeen gaps. They are all 9, or the last four
+ * count too, so that nearly all entries before them are new ones.
+ */
+#define FULL (2 * LONGEST + 2)
+
+static struct bytes many_entries(size_t lines, int counting)
+{
+    struct bytes list = fresh(FULL * lines);
+    uint8_t letters[LONGEST];
+
+    for (size_t line = 0; line < lines; line++) {
+        uint8_t *at = list.at + FULL * line;
+        size_t number = line;
+
+        count(letters, LONGEST, 3, line);
+        memset(at, '9', FULL);
+        for (size_t i = 0; i < LONGEST; i++)
+            at[2 * i + 1] = letters[i];
+        for (size_t i = 0; counting && i < 4; i++, number /= 9)
+            at[FULL - 2 - 2 * i] = (uint8_t)('1' + number % 9);
+        at[FULL - 1] = '\n';
+    }
+    return list;
+}
+
+/* The patterns a9, aa9, .., of 1 to 16 symbols. */
+static struct bytes repeated(void)
+{
+    struct bytes list = fresh(LONGEST * (LONGEST + 5) / 2);
+    uint8_t *at = list.at;
+
+    for (size_t symbols = 1; symbols <= LONGEST; symbols++) {
+        memset(at, 'a', symbols);
+        memcpy(at + symbols, "9\n", 2);
+        at += symbols + 2;
+    }
+    return list;
+}
+
+static void put(uint8_t *at, size_t number)
+{
+    at[0] = (uint8_t)(number >> 8);
+    at[1] = (uint8_t)number;
+}
+
+static uint8_t *cell(struct bytes table, size_t number)
+{
+    return table.at + 6 + 6 * number;
+}
+
+static uint8_t *entry(struct bytes table, size_t number)
+{
+    return table.at + 6 + 6 * CELLS + 5 * (number - 1);
+}
+
+static void set(struct bytes table, size_t number, size_t symbol, size_t link)
+{
+    cell(table, number)[1] = (uint8_t)symbol;
+    put(cell(table, number) + 2, link);
+    put(cell(table, number) + 4, ENTRIES);
+}
+
+/*
+ * A table of the largest size with free cells and the longest chain: entry k has next k - 1. The distances are 0 up to a number; each
+ * is named by hundreds of entries, but with level 9 only by those that are reached last.
+ */
+static struct bytes chained(size_t distances)
+{
+    struct bytes table = fresh(TTEOLMIGU_PACK_ROOM);
+
+    table.at[0] = 1;
+    table.at[1] = 1;
+    put(table.at + 2, CELLS);
+    put(table.at + 4, ENTRIES);
+    for (size_t i = 0; i < CELLS; i++)
+        cell(table, i)[0] = 2;
+    for (size_t k = 1; k <= ENTRIES; k++) {
+        entry(table, k)[0] = 3;
+        entry(table, k)[1] = (uint8_t)((k - 1) % distances);
+        entry(table, k)[2] = k <= distances ? 9 : (uint8_t)(1 + k % 8);
+        put(entry(table, k) + 3, k - 1);
+    }
+    return table;
+}
+
+/* Every 27th number is a base from which all symbols match, links lead round among these, and every output is the longest chain. */
+static struct bytes circles(void)
+{
+    struct bytes table = chained(2);
+
+    for (size_t i = 0; i < CELLS; i++)
+        set(table, i, i == 0 ? 0 : (i - 1) % 27 + 1, 27 * (1 + 7 * i % 302));
+    return table;
+}
+
+/* Random bodies behind right kinds. */
+static struct bytes rubbish(void)
+{
+    struct bytes table = chained(1);
+    uint32_t state = 1962;
+
+    for (size_t i = 6; i < table.size; i++) {
+        state = state * 1664525 + 1013904223;
+        if (i < 6 + 6 * CELLS ? (i - 6) % 6 != 0 : (i - 6 - 6 * CELLS) % 5 != 0)
+            table.at[i] = (uint8_t)(state >> 24);
+    }
+    return table;
+}
+
+/* A list packed on the main thread, into the room. */
+static struct bytes packed(const char *what, struct bytes list)
+{
+    struct bytes table = {room, tteolmigu_size(tteolmigu_pack(list.at, list.size, room, sizeof room))};
+
+    expect("pack", what, "no table, or one that isn't right", tteolmigu_check(list.at, list.size, table.at, table.size) == 0);
+    return table;
+}
+
+/* A right table for a list with a 9 at every gap of its lines: its packed cells, with the longest chain as each line's output. */
+static struct bytes right_for(const char *what, struct bytes list)
+{
+    struct bytes table = chained(LONGEST + 1);
+    size_t cells = (packed(what, list).size - 6 - 5 * (LONGEST + 1)) / 6;
+
+    memcpy(cell(table, 0), room + 6, 6 * cells);
+    for (size_t i = 0; i < cells; i++)
+        if (cell(table, i)[4] != 0 || cell(table, i)[5] != 0)
+            put(cell(table, i) + 4, ENTRIES);
+    return table;
+}
+
+/* A right table for the repeated letter: one cell leads to itself, and each of the sixteen patterns has the longest chain. */
+static struct bytes round_and_round(void)
+{
+    struct bytes table = chained(1);
+
+    set(table, 1, 1, 1);
+    set(table, 2, 1, 1);
+    return table;
+}
+
+/* What a thread takes by itself, and that both the colour and the forbidden memory show what a call takes. */
+static void look_at_threads(void)
+{
+    struct job job = {.call = NOTHING};
+
+    if (apart(&job, WIDE) != 0) {
+        printf("stack: no thread can be made on lent memory\n");
+        exit(2);
+    }
+    empty = *told;
+    printf("an empty thread takes %zu bytes, %zu of them below its function's frame\n", empty.thread, empty.below);
+    printf("a call gets a stack of %zu bytes (rounded up by %zu)\n", size_for(CHECK), size_for(CHECK) - LIMIT - empty.thread);
+    printf("pack gets one of %zu bytes (rounded up by %zu)\n", size_for(PACK), size_for(PACK) - LIMIT - ARRAYS - empty.thread);
+    job.call = TAKE;
+    job.word.size = 5000;
+    expect("take", "5,000 bytes", "not seen", apart(&job, size_for(TAKE)) == 0 && told->below >= 5000 && told->below < 5200);
+    job.word.size = LIMIT + ALIGN;
+    expect("take", "more than the limit", "not seen", apart(&job, WIDE) == 0 && told->thread > size_for(TAKE));
+    expect("take", "more than the limit", "not stopped", apart(&job, size_for(TAKE)) == SIGSEGV);
+}
+
+int main(void)
+{
+    /* What can be wrong with the entry that a chain reaches last. */
+    static const struct {
+        const char *what;
+        size_t byte;
+        uint8_t value;
+    } faults[] = {
+        {"a distance too far at the end", 1, LONGEST + 1},
+        {"level 0 at the end", 2, 0},
+        {"level 10 at the end", 2, 10},
+        {"a level of another pattern at the end", 2, 8},
+        {"a next that isn't lower at the end", 4, 1},
+    };
+    const struct bytes none = fresh(1);
+    const struct bytes nothing = {none.at, 0};
+    const size_t last = EXCEPTIONS - LINE;
+    const uint64_t all = LETTERS - 1;
+    uint64_t looks = 0;
+    struct bytes word = fresh(LETTERS), digit;
+    struct bytes held, others, twice;
+    struct bytes list, nines, table;
+
+    stack = mmap(NULL, GUARD + WIDE, PROT_READ | PROT_WRITE, MAP_PRIVATE | MAP_ANONYMOUS, -1, 0);
+    told = mmap(NULL, sizeof *told, PROT_READ | PROT_WRITE, MAP_SHARED | MAP_ANONYMOUS, -1, 0);
+    if (stack == MAP_FAILED || told == MAP_FAILED || mprotect(stack, GUARD, PROT_NONE) != 0)
+        return 2;
+    stack += GUARD;
+    setvbuf(stdout, NULL, _IOLBF, 0);
+    look_at_threads();
+
+    /* The word is the last line of the list that holds it; another list has 65 other words, and a bad one its last line twice. */
+    count(word.at, LETTERS, 2, LINES - 1);
+    digit = with(word, LETTERS - 1, '1');
+    held = exceptions(0);
+    others = exceptions(LINES);
+    twice = copy(others);
+    memcpy(twice.at + last, twice.at + last - LINE, LINE);
+    for (size_t place = 0; place < LETTERS + 2; place++)
+        looks += LETTERS + 2 - place < LONGEST ? LETTERS + 2 - place : LONGEST;
+    table = circles();
+
+    levels("circles and the longest chain", word, table, finding(all, looks));
+    levels("a digit as last byte", digit, table, refusal(3, 0, LETTERS - 1));
+    levels("a wrong head", word, with(table, 5, 1), refusal(9, 0, 0));
+
+    hyphenate("circles, no exceptions", word, nothing, nothing, table, finding(all, looks));
+    hyphenate("circles, two full lists", word, others, others, table, finding(all, looks));
+    hyphenate("the house's last line", word, others, held, table, finding(all, 0));
+    hyphenate("the customer's last line", word, held, others, table, finding(all, 0));
+    hyphenate("the customer's last line bad", word, twice, held, table, refusal(6, 1, last));
+    hyphenate("the house's last line bad", word, held, twice, table, refusal(6, 2, last));
+    hyphenate("a list too long", word, held, longer(held), table, refusal(8, 0, 0));
+    hyphenate("a wrong head", word, held, held, with(table, 5, 1), refusal(9, 0, 0));
+
+    lookup("the house's last line", word, others, held, UINT64_C(2) << 48 | last << 16 | (LINE - 1));
+    lookup("the customer's last line", word, held, held, UINT64_C(1) << 48 | last << 16 | (LINE - 1));
+    lookup("no line", word, others, others, 0);
+    lookup("the house's last line bad", word, held, twice, 0);
+
+    list = triples();
+    pack("a list of full size", list, packed("a list of full size", list).size);
+    pack("the last line bad", with(list, PATTERNS - 1, '1'), refusal(7, 0, PATTERNS - 8));
+    pack("a list too long", longer(list), refusal(8, 0, 0));
+    pack("too many cells", many_cells(), refusal(11, 0, 0));
+    pack("too many entries", many_entries(PATTERNS / FULL, 1), refusal(11, 0, 0));
+
+    /* The same symbols as in the last list are packed where they need few entries. */
+    nines = many_entries(PATTERNS / FULL, 0);
+    table = right_for("many lines", nines);
+    check("every line with the longest chain", nines, table, 0);
+    for (size_t i = 0; i < sizeof faults / sizeof *faults; i++) {
+        struct bytes wrong = copy(table);
+
+        entry(wrong, 1)[faults[i].byte] = faults[i].value;
+        check(faults[i].what, nines, wrong, refusal(12, 0, 0));
+    }
+    nines = many_entries(1, 0);
+    check("one line with the longest chain", nines, right_for("one line", nines), 0);
+    check("a circle", repeated(), round_and_round(), 0);
+    check("all paths", repeated(), circles(), refusal(12, 0, 0));
+    check("rubbish", list, rubbish(), refusal(12, 0, 0));
+    check("the last line bad", with(list, PATTERNS - 1, '1'), table, refusal(7, 0, PATTERNS - 8));
+    check("a wrong head", list, with(table, 5, 1), refusal(9, 0, 0));
+
+    for (enum call call = HYPHENATE; call < CALLS; call++)
+        printf("%-9s takes at most %6zu bytes of stack, %6zu beyond an empty thread\n", names[call], most[call], beyond[call]);
+    printf("%d passed, %d failed\n", passed, failed);
+    return failed != 0;
+}
