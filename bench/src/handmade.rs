@@ -268,8 +268,13 @@ fn try_levels(word: &[u8], table: &[u8], room: &mut [u8]) -> Result<u64, u64> {
     let table = read_table(table).ok_or_else(|| refuse(9, 0, 0))?;
     let (levels, looks) = table.levels(&row);
     marks.copy_from_slice(&levels);
-    let count = levels.iter().filter(|&&level| level != 0).count() as u64;
-    Ok(count << 32 | looks)
+    // In a byte, so that many levels are counted at once; Rust 1.63 does so
+    // only where they go by value.
+    let mut count = 0u8;
+    for level in levels {
+        count += (level != 0) as u8;
+    }
+    Ok((count as u64) << 32 | looks)
 }
 
 /// A pattern in fixed space. Symbols past the length are 0, which sorts below

@@ -1,11 +1,15 @@
 //! Measures the library beside independent Rust in one run.
 //!
-//! Usage: bench [--words FILE] [--rounds N]
+//! Usage: bench [--words FILE] [--rounds N] [--count CASE SIDE]
 //!
 //! Three sides do the same work on the same bytes in alternating rounds: the
 //! library, a hand-written Rust version, and the plain reference. Before any
 //! clock starts, all answers and rooms of library and hand-written version are
-//! compared.
+//! compared. A ratio is the library's time over another side's, the first the
+//! median of the rounds' ratios.
+//!
+//! With --count one side does one case once, over fewer of the same words, for
+//! callgrind to count its instructions.
 
 mod handmade;
 
@@ -18,8 +22,14 @@ use tteolmigu::raw;
 
 /// How many words are made if no file is given.
 const WORDS: usize = 200_000;
-/// How many of the words go over the full exception list, which is slow.
-const FEW: usize = 20_000;
+/// How many of the words are done where instructions are counted.
+const COUNTED: usize = 10_000;
+/// One in so many words goes over the full exception list, which is slow.
+const FEW: usize = 10;
+/// The reference, which is slow too, runs in one of so many rounds.
+const SELDOM: usize = 10;
+/// The seed of the words' order.
+const SEED: u64 = 1_983;
 
 /// The hyphenating call, whoever made it.
 type Hyphenate = fn(u64, u64, &[u8], &[u8], &[u8], &[u8], &mut [u8]) -> u64;
@@ -27,75 +37,102 @@ type Hyphenate = fn(u64, u64, &[u8], &[u8], &[u8], &[u8], &mut [u8]) -> u64;
 /// One side's way to do a piece of work; the sum of the answers comes back.
 type Work<'a> = Box<dyn FnMut() -> u64 + 'a>;
 
-/// The three sides, in the order in which they are shown.
-struct Sides<'a> {
-    library: Work<'a>,
-    handmade: Work<'a>,
-    reference: Work<'a>,
+/// The names of the sides, in the order in which they are shown.
+const SIDES: [&str; 3] = ["library", "handmade", "reference"];
+
+/// A piece of work with each side's way to do it.
+struct Case<'a> {
+    name: &'static str,
+    /// How many words are done, or nothing for a single call.
+    words: Option<usize>,
+    sides: [Work<'a>; 3],
 }
 
-/// Best and median seconds.
-#[derive(Clone, Copy)]
-struct Times {
-    best: f64,
-    median: f64,
+/// What was seen of a case: the median of the rounds' ratios of the library to
+/// the hand-written version, and the best seconds of each side.
+struct Found {
+    ratio: f64,
+    best: [f64; 3],
 }
 
-fn times(mut seconds: Vec<f64>) -> Times {
-    seconds.sort_by(|one, other| one.total_cmp(other));
-    Times {
-        best: seconds[0],
-        median: seconds[seconds.len() / 2],
-    }
+/// The seconds of one side's work, and the sum of its answers.
+fn clock(work: &mut Work<'_>) -> (f64, u64) {
+    let start = Instant::now();
+    let sum = work();
+    (start.elapsed().as_secs_f64(), sum)
 }
 
-/// Runs the sides in turn and takes the time of each.
-fn measure(rounds: usize, sides: &mut Sides<'_>) -> [Times; 3] {
-    let mut seconds = [Vec::new(), Vec::new(), Vec::new()];
-    for _ in 0..rounds {
-        let mut sums = Vec::new();
-        let works = [
-            &mut sides.library,
-            &mut sides.handmade,
-            &mut sides.reference,
-        ];
-        for (work, seconds) in works.into_iter().zip(&mut seconds) {
-            let start = Instant::now();
-            sums.push(work());
-            seconds.push(start.elapsed().as_secs_f64());
-        }
+/// Runs library and hand-written version in turn; each goes first in every
+/// other round, so that neither always finds the caches warm. A machine that is
+/// slow for a while is so for both sides of a round, and the median of the
+/// rounds' ratios hardly moves. The reference runs in one of some rounds.
+fn measure(rounds: usize, sides: &mut [Work<'_>; 3]) -> Found {
+    let [library, handmade, reference] = sides;
+    let mut ratios = Vec::new();
+    let mut best = [f64::INFINITY; 3];
+    for round in 0..rounds {
+        let (ours, theirs) = if round % 2 == 0 {
+            let ours = clock(library);
+            (ours, clock(handmade))
+        } else {
+            let theirs = clock(handmade);
+            (clock(library), theirs)
+        };
         // This also keeps the compiler from leaving work out.
-        assert!(sums[0] == sums[1] && sums[0] == sums[2], "answers differ");
+        assert!(ours.1 == theirs.1, "answers differ");
+        ratios.push(ours.0 / theirs.0);
+        best[0] = best[0].min(ours.0);
+        best[1] = best[1].min(theirs.0);
+        if round % SELDOM == 0 {
+            let plain = clock(reference);
+            assert!(ours.1 == plain.1, "answers differ");
+            best[2] = best[2].min(plain.0);
+        }
     }
-    seconds.map(times)
+    ratios.sort_by(|one, other| one.total_cmp(other));
+    Found {
+        ratio: ratios[ratios.len() / 2],
+        best,
+    }
 }
 
-/// Shows one line for best and one for median. `amount` is how many words
-/// were done, or nothing for a single piece of work.
-fn show(what: &str, amount: Option<usize>, found: [Times; 3]) {
-    let figure = |seconds: f64| match amount {
-        Some(amount) => format!("{:.0} words/s", amount as f64 / seconds),
+/// Shows a case, the ratios first.
+fn show(case: &Case<'_>, found: &Found) {
+    let figure = |seconds: f64| match case.words {
+        Some(words) => format!("{:.0} words/s", words as f64 / seconds),
         None => format!("{:.3} ms", seconds * 1e3),
     };
-    let best = found.map(|times| times.best);
-    let median = found.map(|times| times.median);
-    for (name, [library, handmade, reference]) in [("best", best), ("median", median)] {
-        println!(
-            "{:<34} {:<7} {:>18} {:>18} {:>18} {:>10.2} {:>10.2}",
-            what,
-            name,
-            figure(library),
-            figure(handmade),
-            figure(reference),
-            library / handmade,
-            library / reference
-        );
-    }
+    let [library, handmade, reference] = found.best;
+    println!(
+        "{:>10.2} {:>10.2} {:>9.2}  {:<24} {:>17} {:>17} {:>17}",
+        found.ratio,
+        library / handmade,
+        library / reference,
+        case.name,
+        figure(library),
+        figure(handmade),
+        figure(reference)
+    );
+}
+
+/// One side's work, under a name that callgrind is told to collect.
+#[no_mangle]
+#[inline(never)]
+pub extern "C" fn bench_counted(work: &mut Work<'_>) -> u64 {
+    work()
+}
+
+/// Does one side's work once and tells over how many words or calls.
+fn count(case: &mut Case<'_>, side: &str) {
+    let known = SIDES.iter().position(|&name| name == side);
+    let place = known.unwrap_or_else(|| panic!("{} isn't a side", side));
+    bench_counted(&mut case.sides[place]);
+    println!("{} counted", case.words.unwrap_or(1));
 }
 
 /// Words of ordinary length, put together from pieces of the patterns.
 fn make_words(list: &[Pattern]) -> Vec<Vec<u8>> {
-    let mut rng = Rng::new(1_983);
+    let mut rng = Rng::new(SEED);
     let letters: Vec<u8> = (1..=26).collect();
     let mut made = Vec::with_capacity(WORDS);
     while made.len() < WORDS {
@@ -106,13 +143,14 @@ fn make_words(list: &[Pattern]) -> Vec<Vec<u8>> {
     made
 }
 
-/// The lines of a file.
+/// The lines of a file in an order that no processor can foresee.
 fn read_words(name: &str) -> Vec<Vec<u8>> {
     let text = std::fs::read(name).unwrap_or_else(|why| panic!("{}: {}", name, why));
     let mut lines: Vec<Vec<u8>> = text.split(|&b| b == b'\n').map(|l| l.to_vec()).collect();
     if lines.last().map_or(false, |line| line.is_empty()) {
         lines.pop();
     }
+    Rng::new(SEED).shuffle(&mut lines);
     lines
 }
 
@@ -221,116 +259,129 @@ fn compare_word(rng: &mut Rng, letters: &[u8], list: &[Pattern], table: &[u8], r
 }
 
 /// The hyphenating call over all words.
-fn hyphenate(words: &[Vec<u8>], house: &[u8], table: &[u8], rounds: usize) -> [Times; 3] {
-    let side = |call: Hyphenate| -> Work<'_> {
+fn hyphenate<'a>(
+    name: &'static str,
+    words: &'a [Vec<u8>],
+    house: &'a [u8],
+    table: &'a [u8],
+) -> Case<'a> {
+    let side = |call: Hyphenate| -> Work<'a> {
         Box::new(move || {
             let mut room = [0; 64];
             sum(words, |word| call(2, 3, word, b"", house, table, &mut room))
         })
     };
-    measure(
-        rounds,
-        &mut Sides {
-            library: side(raw::hyphenate),
-            handmade: side(handmade::hyphenate),
-            reference: side(reference::hyphenate),
-        },
-    )
+    Case {
+        name,
+        words: Some(words.len()),
+        sides: [
+            side(raw::hyphenate),
+            side(handmade::hyphenate),
+            side(reference::hyphenate),
+        ],
+    }
 }
 
 /// The levels call over all words.
-fn levels(words: &[Vec<u8>], table: &[u8], rounds: usize) -> [Times; 3] {
-    let side = |call: fn(&[u8], &[u8], &mut [u8]) -> u64| -> Work<'_> {
+fn levels<'a>(words: &'a [Vec<u8>], table: &'a [u8]) -> Case<'a> {
+    let side = |call: fn(&[u8], &[u8], &mut [u8]) -> u64| -> Work<'a> {
         Box::new(move || {
             let mut room = [0; 64];
             sum(words, |word| call(word, table, &mut room))
         })
     };
-    measure(
-        rounds,
-        &mut Sides {
-            library: side(raw::levels),
-            handmade: side(handmade::levels),
-            reference: side(reference::levels),
-        },
-    )
+    Case {
+        name: "levels",
+        words: Some(words.len()),
+        sides: [
+            side(raw::levels),
+            side(handmade::levels),
+            side(reference::levels),
+        ],
+    }
 }
 
 /// Packing one list.
-fn pack(text: &[u8], rounds: usize) -> [Times; 3] {
+fn pack(text: &[u8]) -> Case<'_> {
     let side = |call: fn(&[u8], &mut [u8]) -> u64| -> Work<'_> {
         let mut room = vec![0; PACK_ROOM];
         Box::new(move || call(text, &mut room))
     };
-    measure(
-        rounds,
-        &mut Sides {
-            library: side(raw::pack),
-            handmade: side(handmade::pack),
-            reference: side(reference::pack),
-        },
-    )
+    Case {
+        name: "pack",
+        words: None,
+        sides: [side(raw::pack), side(handmade::pack), side(reference::pack)],
+    }
 }
 
 /// Checking one table.
-fn check(text: &[u8], table: &[u8], rounds: usize) -> [Times; 3] {
-    let side = |call: fn(&[u8], &[u8]) -> u64| -> Work<'_> { Box::new(move || call(text, table)) };
-    measure(
-        rounds,
-        &mut Sides {
-            library: side(raw::check),
-            handmade: side(handmade::check),
-            reference: side(reference::check),
-        },
-    )
+fn check<'a>(text: &'a [u8], table: &'a [u8]) -> Case<'a> {
+    let side = |call: fn(&[u8], &[u8]) -> u64| -> Work<'a> { Box::new(move || call(text, table)) };
+    Case {
+        name: "check",
+        words: None,
+        sides: [
+            side(raw::check),
+            side(handmade::check),
+            side(reference::check),
+        ],
+    }
 }
 
 fn main() {
     let mut file = None;
-    let mut rounds = 9;
+    let mut rounds = 51;
+    let mut counted = None;
     let mut arguments = std::env::args().skip(1);
     while let Some(name) = arguments.next() {
-        let value = arguments.next().expect("each option has a value");
+        let mut value = || arguments.next().expect("each option has its values");
         match name.as_str() {
-            "--words" => file = Some(value),
-            "--rounds" => rounds = value.parse().expect("a number of rounds"),
-            _ => panic!("{} isn't known; --words FILE, --rounds N", name),
+            "--words" => file = Some(value()),
+            "--rounds" => rounds = value().parse().expect("a number of rounds"),
+            "--count" => counted = Some((value(), value())),
+            _ => panic!("{} isn't known; --words, --rounds, --count", name),
         }
     }
     let text = outside::data("en-us.pat").expect("data/en-us.pat");
     let house = outside::data("en-us.exc").expect("data/en-us.exc");
     let list = read_patterns(&text).expect("a good list");
-    let words = match &file {
+    let mut words = match &file {
         Some(name) => read_words(name),
         None => make_words(&list),
     };
-    let few = &words[..words.len().min(FEW)];
+    if counted.is_some() {
+        words.truncate(COUNTED);
+    }
+    let few = &words[..(words.len() + FEW - 1) / FEW];
     let full = exceptions::exact(&mut Rng::new(8_192), 8_192);
     let mut table = vec![0; PACK_ROOM];
     let length = raw::pack(&text, &mut table);
     assert!(length >> 56 == 0, "the list isn't packed");
     table.truncate(length as usize);
 
+    let mut cases = [
+        levels(&words, &table),
+        hyphenate("hyphenate, empty lists", &words, b"", &table),
+        hyphenate("hyphenate, en-us.exc", &words, &house, &table),
+        hyphenate("hyphenate, 8,192 bytes", few, &full, &table),
+        pack(&text),
+        check(&text, &table),
+    ];
+    if let Some((name, side)) = counted {
+        let case = cases.iter_mut().find(|case| case.name == name);
+        return count(case.expect("a case"), &side);
+    }
+
     compare_random(40_000);
     compare(&words, &house, &text, &table);
     compare(few, &full, &text, &table);
     println!("{} words, {} rounds, answers agree", words.len(), rounds);
     println!(
-        "{:<34} {:<7} {:>18} {:>18} {:>18} {:>10} {:>10}",
-        "", "", "library", "handmade", "reference", "time/hand", "time/ref"
+        "{:>10} {:>10} {:>9}  {:<24} {:>17} {:>17} {:>17}",
+        "time/hand", "best/best", "best/ref", "best times", SIDES[0], SIDES[1], SIDES[2]
     );
-    let found = hyphenate(&words, &house, &table, rounds);
-    show(
-        "hyphenate, en-us.exc as house list",
-        Some(words.len()),
-        found,
-    );
-    let found = hyphenate(&words, b"", &table, rounds);
-    show("hyphenate, both lists empty", Some(words.len()), found);
-    let found = hyphenate(few, &full, &table, rounds);
-    show("hyphenate, full house list", Some(few.len()), found);
-    let found = levels(&words, &table, rounds);
-    show("levels", Some(words.len()), found);
-    show("pack en-us", None, pack(&text, rounds));
-    show("check en-us", None, check(&text, &table, rounds));
+    for case in &mut cases {
+        let found = measure(rounds, &mut case.sides);
+        show(case, &found);
+    }
 }
