@@ -9,10 +9,11 @@
  * must have as many bytes as the size says. Only 'room' is written; it must not overlap any other argument. Texts and tables may hold
  * any bytes: each call ends with a finding or with a numbered refusal, whatever they hold.
  *
- * Stack. Pack takes at most TTEOLMIGU_PACK_STACK bytes and every other call at most TTEOLMIGU_STACK, whatever texts and tables hold.
- * As compiled today no function calls itself, so that a chain of 2,048 entries takes no more than a single entry. This isn't proved;
- * tests/stack holds the archive to it, with the longest chains and the fullest lists. Where a program's symbols are bound lazily, the
- * loader takes stack of its own besides, once, at the first memset or memcpy.
+ * Stack. Pack takes at most TTEOLMIGU_PACK_STACK bytes and every other call at most TTEOLMIGU_STACK, whatever texts and tables hold;
+ * as compiled today these are 18,764 bytes for pack, 616 for hyphenate, 376 for levels, 348 for check and 220 for lookup. No function
+ * calls itself, so that a chain of 2,048 entries takes no more than a single entry. This isn't proved; tests/stack holds the archive to
+ * it, with the longest chains and the fullest lists. Where a program's symbols are bound lazily, the loader takes stack of its own
+ * besides, once, at the first memset or memcpy.
  *
  * Answers. Each call returns one number of 64 bits. Bits 56 to 63 are 0 for a finding, else the number of the ground on which the call
  * refuses. A refusal tells in bits 48 to 55 the exception list it speaks of (1 the customer's, 2 the house's, 0 none) and in bits 0 to

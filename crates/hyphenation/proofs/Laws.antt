@@ -8,7 +8,7 @@ use native.Mathlib.Omega.{arith}
 use borrow.Author.Tests.{lt-leb, le-leb, lt-ltb, le-ltb, eq-eqb, ne-eqb, eqb-true, eqb-false}
 use lib.Dec.{leb, ltb, eqb}
 use lib.ListN.{length, getD, take, drop, set, drop-of-length-le}
-use lib.Seq.{set-at, getD-at}
+use lib.Seq.{set-at}
 use Rattle.base.specs.Limits.{roomSize, marginLimit}
 use Rattle.base.specs.declared.Check.the-variants.{Fine, Refused}
 use Rattle.base.specs.declared.Ground.the-variants.{Margin, RoomShort}
@@ -41,9 +41,6 @@ sheet-more f k (suc n) =
 
 -- a room that is filled from the front, byte by byte
 module _ (f : ℕ → ℕ) (d : List ℕ) (i : ℕ) (h : i < length d) where
-  pub fill-read : {room : List ℕ} → room ≡ sheetFrom f 0 i ++ drop i d → getD room i 0 ≡ getD d i 0
-  fill-read e = rw (e, cons-at d i h) (getD-at (sheetFrom f 0 i) (getD d i 0) (drop (i + 1) d) 0 i (sheet-length f 0 i))
-
   pub fill-turn : {room : List ℕ} {x : ℕ} → room ≡ sheetFrom f 0 i ++ drop i d → x ≡ f i → set room i x ≡ sheetFrom f 0 (i + 1) ++ drop (i + 1) d
   fill-turn {x = x} e q =
       let z : 0 + i ≡ i = omega arith in

@@ -7,9 +7,6 @@ use native.Mathlib.Numerals.{add-one}
 use native.Mathlib.Omega.{arith}
 use Rattle.right.specs.Test.{allFrom}
 
-pub all-start : (test : ℕ → Bool) (n : ℕ) → allFrom test 0 n ≡ allFrom test 0 (n - 0)
-all-start test n = let e : n - 0 ≡ n = omega arith in rw e
-
 -- a test of all numbers below a total, from k on
 module _ (test : ℕ → Bool) (k total : ℕ) where
   all-turn : k < total → allFrom test k (total - k) ≡ (test k && allFrom test (k + 1) (total - (k + 1)))

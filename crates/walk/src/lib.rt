@@ -19,7 +19,7 @@ fn higher(a: u8, b: u8) -> u8
     if a < b {
         return b;
     }
-    a
+    a // it stays
 }
 
 // One level at the gap with so many symbols before it, where it is an inner one. It is always stored: whether a level raises
