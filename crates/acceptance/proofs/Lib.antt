@@ -8,3 +8,4 @@ pub mod Checked
 pub mod Test
 pub mod Lists
 pub mod Theorems
+pub mod Refusals

@@ -17,6 +17,16 @@ use Rattle.right.specs.Test.{rightTest, judgeCheck}
 use Rattle.acceptance.proofs.Lists.{good-sorted, good-patterns, cells-length, entries-length}
 use Rattle.acceptance.proofs.Test.{test-right, right-test}
 
+-- for a good list and a well-formed table the test tells whether the table is right
+pub test-tells : (text table : List ℕ) → judgePatterns text ≡ Fine → judgeTable table ≡ Fine
+    → (rightTest (patternsOf text) (cellsOf table) (entriesOf table) 0 (cellCount table) (entryCount table) ≡ true) ↔ Right (patternsOf text) (cellsOf table) (entriesOf table) 0
+test-tells text table p q =
+    let sorted = good-sorted text p in
+    let shaped = good-patterns text p in
+    let c = cells-length table q in
+    let e = entries-length table q in
+    (test-right _ _ _ 0 _ _ sorted shaped c e, right-test _ _ _ 0 _ _ sorted shaped c e)
+
 pub acceptance : (text table : List ℕ)
     → (judgeCheck text table ≡ Fine)
     ↔ ((judgePatterns text ≡ Fine) × (judgeTable table ≡ Fine) × Right (patternsOf text) (cellsOf table) (entriesOf table) 0)
@@ -26,21 +36,12 @@ acceptance text table = (sound, complete)
     test : Bool
     test = rightTest (patternsOf text) (cellsOf table) (entriesOf table) 0 (cellCount table) (entryCount table)
 
-    -- for a good list and a well-formed table the test tells whether the table is right
-    tells : judgePatterns text ≡ Fine → judgeTable table ≡ Fine → (test ≡ true) ↔ Right (patternsOf text) (cellsOf table) (entriesOf table) 0
-    tells p q =
-        let sorted = good-sorted text p in
-        let shaped = good-patterns text p in
-        let c = cells-length table q in
-        let e = entries-length table q in
-        (test-right _ _ _ 0 _ _ sorted shaped c e, right-test _ _ _ 0 _ _ sorted shaped c e)
-
     sound : judgeCheck text table ≡ Fine → (judgePatterns text ≡ Fine) × (judgeTable table ≡ Fine) × Right (patternsOf text) (cellsOf table) (entriesOf table) 0
     sound e =
         let p = both-fine (judgePatterns text) (first (judgeTable table) (refuseIf (not test) NotRight)) e in
         let q = both-fine (judgeTable table) (refuseIf (not test) NotRight) (p .1) in
         let t = not-false test (not-refused (not test) NotRight (q .1)) in
-        (p .0, q .0, tells (p .0) (q .0) .0 t)
+        (p .0, q .0, test-tells text table (p .0) (q .0) .0 t)
 
     complete : (judgePatterns text ≡ Fine) × (judgeTable table ≡ Fine) × Right (patternsOf text) (cellsOf table) (entriesOf table) 0 → judgeCheck text table ≡ Fine
-    complete (p, q, r) = rw (p, q, tells p q .1 r)
+    complete (p, q, r) = rw (p, q, test-tells text table p q .1 r)

@@ -1,4 +1,4 @@
--- The strings that a walk matches: what it sets and how many cells it looks at are told by them.
+-- The strings that a walk matches: what it sets and how many symbols match are told by them.
 use Prim.Native.Nat.{ℕ, zero, suc, _+_, _-_, _≤_, max}
 use mathlib.Core.Bool.{Bool, true, false, cond}
 use mathlib.Core.List.{List, [], _∷_}
@@ -13,7 +13,7 @@ use Rattle.table.specs.declared.Look.{Look}
 use Rattle.table.specs.declared.Look.the-variants.{Hit, Miss}
 use Rattle.liang.specs.Levels.{begins}
 use Rattle.walk.specs.Chain.{chain}
-use Rattle.walk.specs.Walk.{setStep, setFrom, lookStep, looksFrom}
+use Rattle.walk.specs.Walk.{setStep, setFrom, matchStep, matchesFrom}
 use Rattle.walk.specs.Raise.{highestSet}
 use Rattle.right.specs.Paths.{onward, along}
 use Rattle.accepted.proofs.Strings.{begins-cons, begins-more}
@@ -33,7 +33,7 @@ module _ (cells : List ℕ) where
     pub matches : along cells base u ≡ Hit link output
 
   -- a string with no symbols is no path, so another cell was looked at behind this one
-  along-further : (base s l o link output : ℕ) (u : List ℕ) → look cells (base + s) s ≡ Hit l o → (l ≡ 0 → ⊥) → along cells l u ≡ Hit link output
+  pub along-further : (base s l o link output : ℕ) (u : List ℕ) → look cells (base + s) s ≡ Hit l o → (l ≡ 0 → ⊥) → along cells l u ≡ Hit link output
       → along cells base (s ∷ u) ≡ Hit link output
   unfolding along onward
   along-further base s l o link output [] e z a = let q : _≡_ {A = ℕ} 0 1 = cc in absurd (omega arith)
@@ -115,39 +115,39 @@ module _ (cells entries : List ℕ) (gap : ℕ) where
       go (Hit link output) e next =
           omega (arith, sets-hit left base m end s link output row e, h (s ∷ []) link output (last e), rest link output e (next link) (eqb link 0) refl)
 
--- how many cells it looks at
+-- how many symbols it matches
 module _ (cells : List ℕ) where
-  looks-hit : (left base s link output : ℕ) (row : List ℕ) → look cells (base + s) s ≡ Hit link output
-      → looksFrom cells (suc left) base (s ∷ row) ≡ 1 + cond (eqb link 0) 0 (looksFrom cells left link row)
-  unfolding looksFrom lookStep
-  looks-hit left base s link output row e = rw e
+  matches-hit : (left base s link output : ℕ) (row : List ℕ) → look cells (base + s) s ≡ Hit link output
+      → matchesFrom cells (suc left) base (s ∷ row) ≡ 1 + cond (eqb link 0) 0 (matchesFrom cells left link row)
+  unfolding matchesFrom matchStep
+  matches-hit left base s link output row e = rw e
 
-  -- a walk looks at every cell of a string that it matches
-  pub looks-least : {left base link output : ℕ} {row u : List ℕ} → Match cells left base row u link output → length u ≤ looksFrom cells left base row
-  looks-least (last {left} {base} {s} {row} {link} {output} e) = omega (arith, looks-hit left base s link output row e)
-  looks-least (further {left} {base} {s} {l} {o} {link} {output} {row} {u} e z k) =
-      let next = looks-least k in
-      let hit = rw (ne-eqb l 0 z) at (looks-hit left base s l o row e) in
+  -- every symbol of a string that the walk matches is one
+  pub matches-least : {left base link output : ℕ} {row u : List ℕ} → Match cells left base row u link output → length u ≤ matchesFrom cells left base row
+  matches-least (last {left} {base} {s} {row} {link} {output} e) = omega (arith, matches-hit left base s link output row e)
+  matches-least (further {left} {base} {s} {l} {o} {link} {output} {row} {u} e z k) =
+      let next = matches-least k in
+      let hit = rw (ne-eqb l 0 z) at (matches-hit left base s l o row e) in
       omega arith
 
-  -- and at one cell more than the longest of them has, the mismatch that ends it
-  pub looks-most : (left base bound : ℕ) (row : List ℕ) → ((u : List ℕ) (link output : ℕ) → Match cells left base row u link output → length u ≤ bound)
-      → looksFrom cells left base row ≤ suc bound
-  unfolding looksFrom lookStep
-  looks-most zero base bound row h = omega arith
-  looks-most (suc left) base bound [] h = omega arith
-  looks-most (suc left) base bound (s ∷ row) h = go (look cells (base + s) s) refl (λ link b k. looks-most left link b row k)
+  -- and there are no more than the longest of them has
+  pub matches-most : (left base bound : ℕ) (row : List ℕ) → ((u : List ℕ) (link output : ℕ) → Match cells left base row u link output → length u ≤ bound)
+      → matchesFrom cells left base row ≤ bound
+  unfolding matchesFrom matchStep
+  matches-most zero base bound row h = omega arith
+  matches-most (suc left) base bound [] h = omega arith
+  matches-most (suc left) base bound (s ∷ row) h = go (look cells (base + s) s) refl (λ link b k. matches-most left link b row k)
     where
       Few : ℕ → Type 0
-      Few link = (b : ℕ) → ((u : List ℕ) (l o : ℕ) → Match cells left link row u l o → length u ≤ b) → looksFrom cells left link row ≤ suc b
+      Few link = (b : ℕ) → ((u : List ℕ) (l o : ℕ) → Match cells left link row u l o → length u ≤ b) → matchesFrom cells left link row ≤ b
 
-      rest : (link output : ℕ) → look cells (base + s) s ≡ Hit link output → Few link → (z : Bool) → eqb link 0 ≡ z → cond z 0 (looksFrom cells left link row) ≤ bound
-      rest link output e next true p = omega arith
+      rest : (link output : ℕ) → look cells (base + s) s ≡ Hit link output → Few link → (z : Bool) → eqb link 0 ≡ z → 1 + cond z 0 (matchesFrom cells left link row) ≤ bound
+      rest link output e next true p = let one = h (s ∷ []) link output (last e) in omega arith
       rest link output e next false p =
           let one = h (s ∷ []) link output (last e) in
           let few = next (bound - 1) (λ u l o k. omega (arith, h (s ∷ u) l o (further e (eqb-false link 0 p) k))) in
           omega arith
 
-      go : (found : Look) → look cells (base + s) s ≡ found → ((link : ℕ) → Few link) → looksFrom cells (suc left) base (s ∷ row) ≤ suc bound
+      go : (found : Look) → look cells (base + s) s ≡ found → ((link : ℕ) → Few link) → matchesFrom cells (suc left) base (s ∷ row) ≤ bound
       go Miss e next = rw e (omega arith)
-      go (Hit link output) e next = omega (arith, looks-hit left base s link output row e, rest link output e (next link) (eqb link 0) refl)
+      go (Hit link output) e next = omega (arith, matches-hit left base s link output row e, rest link output e (next link) (eqb link 0) refl)

@@ -9,6 +9,7 @@ ghost use mathlib.Core.List.{[]};
 ghost use Prim.Native.Nat.{_≤_, _<_, suc};
 ghost use lib.Dec.{leb, ltb, eqb};
 ghost use lib.ListN.{length};
+ghost use Rattle.base.specs.Grounds.{Finds, says, firstOf};
 ghost use Rattle.base.specs.Limits.{symbols, patternLimit};
 ghost use Rattle.words.specs.Symbols.{symbolsOf};
 ghost use Rattle.lists.specs.Lists.{judgeLines};
@@ -17,7 +18,7 @@ ghost use Rattle.lists.specs.declared.Lines.{Lines};
 ghost use Rattle.liang.specs.Patterns.{levelsFrom, patternsOf};
 ghost use Rattle.table.specs.Table.{cellCount, entryCount, cellsOf, entriesOf};
 ghost use Rattle.right.specs.Right.{sound};
-ghost use Rattle.right.specs.Test.{kindsFrom, exactTest, childAt, noneBetween, passedOver, follow, rootAt, patternsRight, rightTest, judgeCheck};
+ghost use Rattle.right.specs.Test.{kindsFrom, exactTest, childAt, noneBetween, passedOver, follow, rootAt, patternsRight, rightTest, checkGrounds};
 ghost use Rattle.checker.specs.Post.{sameLevels};
 
 // The kinds of so many records that stand size bytes apart.
@@ -313,7 +314,7 @@ fn is_right(text: &[u8], table: &[u8], root: u16) -> bool
 
 // The checker: 8, 7, 9, 12; it accepts where nothing is refused.
 pub fn check(text: &[u8], table: &[u8]) -> Check
-    ensures { λ r. ⌜ r ≡ judgeCheck (now (text .entry)) (now (table .entry)) ⌝ }
+    ensures { λ r. ⌜ says r ≡ firstOf (Finds []) (checkGrounds (now (text .entry)) (now (table .entry))) ⌝ }
 {
     let list = lists::judge_patterns(text);
     if let Check::Refused(g) = list {

@@ -2,7 +2,7 @@
 use Prim.Native.Nat.{ℕ, zero, suc, _+_, _≤_, _<_}
 use mathlib.Core.Bool.{Bool, true, false, cond, _&&_}
 use mathlib.Core.List.{List, [], _∷_, _++_}
-use mathlib.Core.Path.{_≡_, refl, sym, _∙_, ap}
+use mathlib.Core.Path.{_≡_, refl, sym, _∙_}
 use native.Mathlib.Omega.{arith}
 use borrow.Author.Tests.{le-leb}
 use lib.Dec.{leb, ltb, eqb}
@@ -16,11 +16,8 @@ use Rattle.words.specs.Symbols.{small, lower, letter, symbolOf}
 use Rattle.words.specs.Words.{allLetters, judgeWord, wordSymbols, rowOf, inner}
 use Rattle.words.proofs.Theorems.{letter-lower}
 use Rattle.words.proofs.Laws.{small-low, small-high, symbol-small}
-use Rattle.lookup.specs.Find.{findEither}
-use Rattle.lookup.specs.declared.Located.the-variants.{Nowhere}
 use Rattle.liang.specs.Patterns.{patternsOf}
 use Rattle.liang.specs.Levels.{liang}
-use Rattle.liang.specs.Breaks.{inMargins, odd, levelBreak, isBreak}
 use Rattle.table.specs.Table.{judgeTable, cellsOf, entriesOf}
 use Rattle.walk.specs.Walk.{looksFrom}
 use Rattle.right.specs.Paths.{allSymbols, nth}
@@ -33,12 +30,12 @@ use Rattle.accepted.proofs.Strings.{alphabet-rest}
 use Rattle.right.specs.Test.{judgeCheck}
 use Rattle.acceptance.proofs.Theorems.{acceptance}
 use Rattle.acceptance.proofs.Lists.{good-patterns}
-use Rattle.hyphenation.specs.Sheet.{written, bit}
+use Rattle.hyphenation.specs.Sheet.{written}
 use Rattle.hyphenation.specs.Levels.{levelAt, levelSheet, wordLooks}
-use Rattle.hyphenation.specs.Breaks.{breakSheet, breakLooks}
-use Rattle.hyphenation.specs.Calls.{rootBase, judgeRoom, judgeMargins, judgeLevels, judgeHyphenate, Levels, Breaks}
+use Rattle.hyphenation.specs.Calls.{rootBase, judgeRoom, judgeLevels, Answered, Levels}
 use Rattle.hyphenation.specs.declared.Answer.the-variants as answers
 use Rattle.hyphenation.proofs.Rooms.{written-low}
+use Rattle.hyphenation.proofs.Order.{levels-ordered, computed}
 use Rattle.hyphenation.proofs.Theorems.{Finding, finding}
 
 -- a judged word's row holds symbols alone
@@ -65,7 +62,7 @@ unfolding judgeWord rowOf allSymbols
 row-symbols limit word e =
     letters-symbols 0 word (both-fine (refuseIf (ltb limit (length word)) WordLong) _ (both-fine (refuseIf (eqb (length word) 0) WordEmpty) _ e .1) .1)
 
-alphabet-drop : (n : ℕ) (row : List ℕ) → allSymbols row ≡ true → allSymbols (drop n row) ≡ true
+pub alphabet-drop : (n : ℕ) (row : List ℕ) → allSymbols row ≡ true → allSymbols (drop n row) ≡ true
 alphabet-drop zero row e = e
 alphabet-drop (suc n) [] e = e
 alphabet-drop (suc n) (s ∷ row) e = alphabet-drop n row (alphabet-rest s row e)
@@ -79,7 +76,7 @@ module _ (text table : List ℕ) (accepted : judgeCheck text table ≡ Fine) whe
   patterns-shaped = good-patterns text (acceptance text table .0 accepted .0)
 
   -- the level that the table gives to an inner gap is the one of Liang's method
-  level-liang : (word : List ℕ) → judgeWord wordLimit word ≡ Fine → (i : ℕ) → inner (length word) i ≡ true
+  pub level-liang : (word : List ℕ) → judgeWord wordLimit word ≡ Fine → (i : ℕ) → inner (length word) i ≡ true
       → levelAt (cellsOf table) (entriesOf table) rootBase word i ≡ liang (patternsOf text) word i
   unfolding levelAt liang
   level-liang word fine i h =
@@ -87,52 +84,23 @@ module _ (text table : List ℕ) (accepted : judgeCheck text table ≡ Fine) whe
 
   -- "the levels call gives each inner gap of a word the highest level that a pattern of the list sets there, or 0 if none does"
   module _ (word room after : List ℕ) (marks looks : ℕ) (l : Levels word table room (answers.Found marks looks) after) where
+    levels-computed : Answered (judgeLevels word table (length room)) (levelSheet (cellsOf table) (entriesOf table) rootBase word) (wordLooks (cellsOf table) rootBase word) room (answers.Found marks looks) after
+    levels-computed = computed (levels-ordered word table (length room)) l
+
     levels-finding : Finding (judgeLevels word table (length room)) (levelSheet (cellsOf table) (entriesOf table) rootBase word) (wordLooks (cellsOf table) rootBase word) marks looks
-    levels-finding = finding (judgeLevels word table (length room)) _ _ marks looks (l .answered)
+    levels-finding = finding (judgeLevels word table (length room)) _ _ marks looks (levels-computed .answered)
 
     levels-word : judgeWord wordLimit word ≡ Fine
     unfolding judgeLevels
     levels-word = both-fine (judgeWord wordLimit word) (judgeTable table) (both-fine (judgeRoom (length room)) _ (levels-finding .judged-fine) .1) .0
 
     levels-sheet : after ≡ written (levelSheet (cellsOf table) (entriesOf table) rootBase word) room
-    levels-sheet = l .memory ∙ rw (levels-finding .judged-fine)
+    levels-sheet = levels-computed .memory ∙ rw (levels-finding .judged-fine)
 
     pub levels-are-liang : (i : ℕ) → inner (length word) i ≡ true → i < roomSize → getD after i 0 ≡ liang (patternsOf text) word i
     unfolding levelSheet
     levels-are-liang i h k =
         rw levels-sheet (written-low (levelAt (cellsOf table) (entriesOf table) rootBase word) room i k) ∙ level-liang word levels-word i h
-
-  -- "and the hyphenating call breaks a word on neither exception list at exactly those inner gaps inside the margins whose level
-  -- is odd"
-  module _ (left right : ℕ) (word customer house room after : List ℕ) (marks looks : ℕ) (b : Breaks left right word customer house table room (answers.Found marks looks) after)
-      (unlisted : findEither word customer house ≡ Nowhere) where
-    breaks-finding : Finding (judgeHyphenate left right word customer house table (length room)) (breakSheet left right customer house (cellsOf table) (entriesOf table) rootBase word)
-        (breakLooks customer house (cellsOf table) rootBase word) marks looks
-    breaks-finding = finding (judgeHyphenate left right word customer house table (length room)) _ _ marks looks (b .answered)
-
-    breaks-word : judgeWord wordLimit word ≡ Fine
-    unfolding judgeHyphenate
-    breaks-word =
-        let a = both-fine (judgeMargins left right) _ (breaks-finding .judged-fine) in
-        let c = both-fine (judgeRoom (length room)) _ (a .1) in
-        both-fine (judgeWord wordLimit word) _ (c .1) .0
-
-    breaks-sheet : after ≡ written (breakSheet left right customer house (cellsOf table) (entriesOf table) rootBase word) room
-    breaks-sheet = b .memory ∙ rw (breaks-finding .judged-fine)
-
-    -- the test of an inner gap asks its level alone
-    same-break : (i : ℕ) → levelBreak left right (length word) (levelAt (cellsOf table) (entriesOf table) rootBase word) i ≡ levelBreak left right (length word) (liang (patternsOf text) word) i
-    unfolding levelBreak
-    same-break i = go (inner (length word) i) refl
-      where
-        go : (z : Bool) → inner (length word) i ≡ z
-            → (z && (inMargins left right (length word) i && odd (levelAt (cellsOf table) (entriesOf table) rootBase word i))) ≡ (z && (inMargins left right (length word) i && odd (liang (patternsOf text) word i)))
-        go true p = rw (level-liang word breaks-word i p)
-        go false p = refl
-
-    pub breaks-are-liang : (i : ℕ) → i < roomSize → getD after i 0 ≡ bit (levelBreak left right (length word) (liang (patternsOf text) word) i)
-    unfolding breakSheet isBreak
-    breaks-are-liang i k = rw breaks-sheet (written-low _ room i k ∙ rw unlisted (ap bit (same-break i)))
 
   -- "at each place in the row at most one more than the symbols in the longest beginning of a pattern standing there": m or m + 1,
   -- at least 1 and at most 16

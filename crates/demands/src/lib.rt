@@ -1,1 +1,1 @@
-// What the customer's third demand says, as theorems about the promises of the calls, in proofs/. No code stands here.
+// What the customer's three demands say, as theorems about the promises of the calls, in proofs/. No code stands here.

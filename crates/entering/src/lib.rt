@@ -2,7 +2,6 @@
 ghost use mathlib.Core.Path.{_≡_};
 ghost use Prim.Native.Nat.{_+_, _*_, _≤_, suc};
 ghost use lib.ListN.{length};
-ghost use Rattle.words.specs.Symbols.{symbolsOf};
 ghost use Rattle.liang.specs.Patterns.{levelsFrom};
 ghost use Rattle.fit.specs.Entries as fit;
 ghost use Rattle.entering.specs.Post.{asEntries, countOf};
@@ -75,11 +74,13 @@ fn enter(bytes: &mut [u8], count: u16, next: u16, distance: u8, level: u8) -> En
     Entered::TooMany
 }
 
-// The chain of a pattern line of m symbols: its nonzero levels from the smallest distance up.
+// The chain of a pattern line of m symbols: its nonzero levels from the smallest distance up. Where there are too
+// many entries, what the room holds is left open; its size stays.
 pub fn enter_levels(bytes: &mut [u8], count: u16, line: &[u8], m: u8) -> Entered
     requires { ⌜ (length (now bytes) ≡ 10240) × (count ≤ 2048) × (m ≤ 16) ⌝ }
     ensures { λ r. ⌜ fit.enterLevels (levelsFrom 0 (now (line .entry))) m 0 (suc m) (fit.Made (now (bytes .entry)) count 0) ≡ asEntries (now (bytes .exit)) r ⌝ }
     ensures { λ r. ⌜ countOf r ≤ 2048 ⌝ }
+    ensures left { λ _. ⌜ length (now (bytes .exit)) ≡ 10240 ⌝ }
 {
     let mut made = count;
     let mut last: u16 = 0;

@@ -1,5 +1,5 @@
 -- Entering a pattern's levels: earlier entries stay, and the chain made or found sets exactly the pattern's levels.
-use Prim.Native.Nat.{ℕ, zero, suc, _+_, _*_, _-_, _≤_, _<_, max}
+use Prim.Native.Nat.{ℕ, zero, suc, _+_, _*_, _-_, _/_, _%_, _≤_, _<_, max}
 use mathlib.Core.Bool.{Bool, true, false, cond}
 use mathlib.Core.List.{List}
 use mathlib.Core.Path.{_≡_, refl, sym, _∙_, ap, subst}
@@ -18,8 +18,9 @@ use Rattle.walk.specs.Raise.{highestSet}
 use Rattle.walk.proofs.Laws.{chain-turn}
 use Rattle.right.specs.Right.{soundStep, soundFrom, sound}
 use Rattle.accepted.proofs.Strings.{both}
+use Rattle.fit.specs.Cells.{putNumber}
 use Rattle.fit.specs.Entries.{holds, findEntry, putEntry, Entries, TooMany, Made, enterAt, enter, enterLevels}
-use Rattle.fitted.proofs.Bytes.{number-same, put-length, put-kept, put-read}
+use Rattle.fitted.proofs.Bytes.{number-same, put-length, put-kept, put-high, put-low, put-read}
 
 -- where entry k stands
 abbrev place : ℕ → ℕ
@@ -84,11 +85,11 @@ module _ (bytes : List ℕ) (at distance level next : ℕ) (room : at + entrySiz
   three-length : length three ≡ length bytes
   three-length = simp length-set
 
-  entry-length : length (putEntry bytes at distance level next) ≡ length bytes
+  pub entry-length : length (putEntry bytes at distance level next) ≡ length bytes
   unfolding putEntry
   entry-length = put-length (at + 3) next three ∙ three-length
 
-  entry-kept : (i : ℕ) → i < at → getD (putEntry bytes at distance level next) i 0 ≡ getD bytes i 0
+  pub entry-kept : (i : ℕ) → i < at → getD (putEntry bytes at distance level next) i 0 ≡ getD bytes i 0
   unfolding putEntry
   entry-kept i h =
       put-kept (at + 3) next three i (λ e. omega (arith, e)) (λ e. omega (arith, e))
@@ -96,7 +97,7 @@ module _ (bytes : List ℕ) (at distance level next : ℕ) (room : at + entrySiz
       ∙ getD-set-other one (at + 1) i distance 0 (λ e. omega (arith, e))
       ∙ getD-set-other bytes at i entryKind 0 (λ e. omega (arith, e))
 
-  entry-kind : getD (putEntry bytes at distance level next) at 0 ≡ entryKind
+  pub entry-kind : getD (putEntry bytes at distance level next) at 0 ≡ entryKind
   unfolding putEntry
   entry-kind =
       put-kept (at + 3) next three at (λ e. omega (arith, e)) (λ e. omega (arith, e))
@@ -104,18 +105,26 @@ module _ (bytes : List ℕ) (at distance level next : ℕ) (room : at + entrySiz
       ∙ getD-set-other one (at + 1) at distance 0 (λ e. omega (arith, e))
       ∙ getD-set-same bytes at entryKind 0 (omega arith)
 
-  entry-distance : getD (putEntry bytes at distance level next) (at + 1) 0 ≡ distance
+  pub entry-distance : getD (putEntry bytes at distance level next) (at + 1) 0 ≡ distance
   unfolding putEntry
   entry-distance =
       put-kept (at + 3) next three (at + 1) (λ e. omega (arith, e)) (λ e. omega (arith, e))
       ∙ getD-set-other two (at + 2) (at + 1) level 0 (λ e. omega (arith, e))
       ∙ getD-set-same (set bytes at entryKind) (at + 1) distance 0 (omega (arith, length-set bytes at entryKind))
 
-  entry-level : getD (putEntry bytes at distance level next) (at + 2) 0 ≡ level
+  pub entry-level : getD (putEntry bytes at distance level next) (at + 2) 0 ≡ level
   unfolding putEntry
   entry-level =
       put-kept (at + 3) next three (at + 2) (λ e. omega (arith, e)) (λ e. omega (arith, e))
       ∙ getD-set-same (set (set bytes at entryKind) (at + 1) distance) (at + 2) level 0 (omega (arith, length-set bytes at entryKind, length-set (set bytes at entryKind) (at + 1) distance))
+
+  pub entry-high : getD (putEntry bytes at distance level next) (at + 3) 0 ≡ next / 256
+  unfolding putEntry
+  entry-high = put-high (at + 3) next three (omega (arith, three-length))
+
+  pub entry-low : getD (putEntry bytes at distance level next) (at + 4) 0 ≡ next % 256
+  unfolding putEntry
+  entry-low = let e : at + 4 ≡ at + 3 + 1 = omega arith in ap (λ (i : ℕ). getD (putNumber (at + 3) next three) i 0) e ∙ put-low (at + 3) next three (omega (arith, three-length))
 
   entry-next : numberAt (putEntry bytes at distance level next) (at + 3) ≡ next
   unfolding putEntry

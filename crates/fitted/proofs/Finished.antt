@@ -2,10 +2,11 @@
 use Prim.Native.Nat.{ℕ, zero, suc, _+_, _*_, _-_, _≤_, _<_, max}
 use mathlib.Core.Bool.{Bool, true, false, cond}
 use mathlib.Core.List.{List}
+use mathlib.Core.Logic.{_⊎_, inl, inr}
 use mathlib.Core.Path.{_≡_, refl, sym, _∙_, ap, subst}
 use native.Mathlib.Decide.{ℕ-discrete, decLt}
 use native.Mathlib.Omega.{arith}
-use borrow.Author.Tests.{eqb-true, le-leb}
+use borrow.Author.Tests.{eqb-true, eqb-false, le-leb}
 use lib.ListN.{length, getD, set, take, drop, length-set, length-append, List·getD-eq-default}
 use lib.Seq.{getD-set-same, getD-set-other, getD-take, getD-drop, length-take-le, take-at, drop-at, drop-drop}
 use Rattle.base.specs.Limits.{cells, entries}
@@ -18,37 +19,53 @@ use Rattle.fitted.proofs.Bytes.{kindIn, symbolIn, linkIn, outputIn, num
 use Rattle.fitted.proofs.Nodes.{Node, node, Goes, Holds, Owned, Linked, owned-moved, linked-moved}
 use Rattle.fitted.proofs.Chains.{Entered, Kept, entry-same}
 
+-- the cell before C is a used one of n from k on, where C is not what it was
+abbrev pub Top : List ℕ → ℕ → ℕ → ℕ → ℕ → Type 0
+Top bytes k n c used = (used ≡ c) ⊎ ((i : ℕ) × ((i < n) × ((suc (k + i) ≡ used) × (symbolIn bytes i ≡ 0 → ⊥))))
+
 -- "C is the highest used cell + 1": no used cell among n from k on lies at it or behind it
 record Used (bytes : List ℕ) (k n c used : ℕ) : Type 0 where
   least : c ≤ used
   most : used ≤ max c (k + n)
   behind : (i : ℕ) → i < n → (symbolIn bytes i ≡ 0 → ⊥) → k + i < used
+  top : Top bytes k n c used
 
 used-says : (n k c : ℕ) (bytes : List ℕ) → c ≤ suc k → Used bytes k n c (usedFrom bytes k n c)
 unfolding usedFrom
-used-says zero k c bytes h = record { least = omega arith; most = omega arith; behind = λ i l. absurd (omega arith) }
+used-says zero k c bytes h = record { least = omega arith; most = omega arith; behind = λ i l. absurd (omega arith); top = inl refl }
 used-says (suc n) k c bytes h = go (isFree bytes 0) refl (λ d l. used-says n (suc k) d (drop cellSize bytes) l)
   where
     taken : isFree bytes 0 ≡ true → symbolIn bytes 0 ≡ 0
     taken e = unfold isFree in eqb-true (symbolIn bytes 0) 0 e
+
+    held : isFree bytes 0 ≡ false → symbolIn bytes 0 ≡ 0 → ⊥
+    held e = unfold isFree in eqb-false (symbolIn bytes 0) 0 e
 
     further : (i : ℕ) → symbolIn (drop cellSize bytes) i ≡ symbolIn bytes (suc i)
     further i = let e : cellSize + (cellSize * i + 1) ≡ cellSize * suc i + 1 = omega arith in getD-drop cellSize bytes (cellSize * i + 1) 0 ∙ ap (λ (j : ℕ). getD bytes j 0) e
 
     go : (z : Bool) → isFree bytes 0 ≡ z → ((d : ℕ) → d ≤ suc (suc k) → Used (drop cellSize bytes) (suc k) n d (usedFrom (drop cellSize bytes) (suc k) n d))
         → Used bytes k (suc n) c (usedFrom (drop cellSize bytes) (suc k) n (cond z c (suc k)))
-    go true e next = record { least = r .least; most = omega (arith, r .most); behind = behind }
+    go true e next = record { least = r .least; most = omega (arith, r .most); behind = behind; top = top (r .top) }
       where
         r : Used (drop cellSize bytes) (suc k) n c (usedFrom (drop cellSize bytes) (suc k) n c)
         r = next c (omega arith)
 
+        top : Top (drop cellSize bytes) (suc k) n c (usedFrom (drop cellSize bytes) (suc k) n c) → Top bytes k (suc n) c (usedFrom (drop cellSize bytes) (suc k) n c)
+        top (inl e) = inl e
+        top (inr w) = inr (suc (w .0), (omega (arith, w .1 .0), (omega (arith, w .1 .1 .0), λ z. w .1 .1 .1 (further (w .0) ∙ z))))
+
         behind : (i : ℕ) → i < suc n → (symbolIn bytes i ≡ 0 → ⊥) → k + i < usedFrom (drop cellSize bytes) (suc k) n c
         behind zero l d = absurd (d (taken e))
         behind (suc i) l d = omega (arith, r .behind i (omega arith) (λ z. d (sym (further i) ∙ z)))
-    go false e next = record { least = omega (arith, r .least); most = omega (arith, r .most); behind = behind }
+    go false e next = record { least = omega (arith, r .least); most = omega (arith, r .most); behind = behind; top = top (r .top) }
       where
         r : Used (drop cellSize bytes) (suc k) n (suc k) (usedFrom (drop cellSize bytes) (suc k) n (suc k))
         r = next (suc k) (omega arith)
+
+        top : Top (drop cellSize bytes) (suc k) n (suc k) (usedFrom (drop cellSize bytes) (suc k) n (suc k)) → Top bytes k (suc n) c (usedFrom (drop cellSize bytes) (suc k) n (suc k))
+        top (inl q) = inr (0, (omega arith, (omega (arith, q), held e)))
+        top (inr w) = inr (suc (w .0), (omega (arith, w .1 .0), (omega (arith, w .1 .1 .0), λ z. w .1 .1 .1 (further (w .0) ∙ z))))
 
         behind : (i : ℕ) → i < suc n → (symbolIn bytes i ≡ 0 → ⊥) → k + i < usedFrom (drop cellSize bytes) (suc k) n (suc k)
         behind zero l d = omega (arith, r .least)
@@ -60,6 +77,10 @@ pub used-range : (bytes : List ℕ) → (1 ≤ usedFrom bytes 0 cells 1) × (use
 used-range bytes =
     let u = used-says cells 0 1 bytes (omega arith) in
     (u .least, omega (arith, u .most), λ n h d. omega (arith, u .behind n h d))
+
+-- and the cell before C is used, unless C is 1
+pub used-top : (bytes : List ℕ) → Top bytes 0 cells 1 (usedFrom bytes 0 cells 1)
+used-top bytes = used-says cells 0 1 bytes (omega arith) .top
 
 -- the kinds of cells 0 to n - 1
 kinds-length : (n : ℕ) (bytes : List ℕ) → length (putKinds n bytes) ≡ length bytes
@@ -99,7 +120,7 @@ module _ (bytes : List ℕ) (c : ℕ) (size : length bytes ≡ cellSize * cells)
   cut-length = length-take-le (cellSize * c) (putKinds c bytes) (omega (arith, kinds-length c bytes))
 
   -- all but the kinds are as before
-  cut-at : (i : ℕ) → i < cellSize * c → ((k : ℕ) → i ≡ cellSize * k → ⊥) → getD cut i 0 ≡ getD bytes i 0
+  pub cut-at : (i : ℕ) → i < cellSize * c → ((k : ℕ) → i ≡ cellSize * k → ⊥) → getD cut i 0 ≡ getD bytes i 0
   cut-at i h d = getD-take (cellSize * c) (putKinds c bytes) i 0 h ∙ kinds-other c bytes i d
 
   pub cut-kind : (n : ℕ) → n < c → kindIn cut n ≡ cellKind

@@ -43,10 +43,7 @@ none-entered n e =
 -- The list is sorted and its patterns are those of good lines, with levels up to 9.
 module _ (patterns : List Pattern) (sorted : Sorted patterns) (shaped : (i : ℕ) → i < length patterns → Shaped (nth patterns i))
     (low : (i : ℕ) → i < length patterns → (gap : ℕ) → getD (nth patterns i .levels) gap 0 ≤ levelLimit) where
-  module _ (bytes taken : List ℕ) (placed : Passing patterns patternLimit 0 bytes taken) where
-    abbrev nodes : List Node
-    nodes = placed .nodes
-
+  module _ (nodes : List Node) (bytes taken : List ℕ) (placed : Passing patterns patternLimit 0 nodes bytes taken) where
     -- a beginning stands behind a node
     beginning-behind : (u : List ℕ) → Beginning patterns u → Behind nodes u
     beginning-behind [] b = absurd (omega (arith, b .some))
@@ -88,6 +85,11 @@ module _ (patterns : List Pattern) (sorted : Sorted patterns) (shaped : (i : ℕ
           differ = λ i j h l e. before-self (nth patterns j .symbols) (subst (λ (u : List ℕ). before u (nth patterns j .symbols) ≡ true) e (sorted i j h l));
           low = low;
         }
+
+    -- the outputs of all patterns
+    pub all-issued : IssuedIn nodes patterns bytes (replicate (entrySize * entries) 0) 0 (outputsOf patterns (Out bytes (replicate (entrySize * entries) 0) 0))
+    all-issued =
+        outputs-from nodes (placed .laid .tree) patterns ready bytes (replicate (entrySize * entries) 0) 0 (placed .laid .owned) (placed .laid .links) (none-entered (entrySize * entries) refl)
 
     module _ (empty after made : List ℕ) (e : ℕ) (issued : Issued nodes patterns bytes empty 0 after made e) where
       abbrev c : ℕ
@@ -189,22 +191,21 @@ module _ (patterns : List Pattern) (sorted : Sorted patterns) (shaped : (i : ℕ
       table-judged : judgeTable (bytesOf c after made e) ≡ Fine
       table-judged = table-fine c e after made cellBytes entryBytes (used-range bytes .0) few (issued .entered .few)
 
-  issued-good : (bytes taken : List ℕ) (placed : Passing patterns patternLimit 0 bytes taken) (empty table : List ℕ) (outs : Outputs)
-      → IssuedIn (placed .nodes) patterns bytes empty 0 outs → finish (usedFrom bytes 0 cells 1) outs ≡ Packed table → Good patterns table
+  issued-good : (nodes : List Node) (bytes taken : List ℕ) (placed : Passing patterns patternLimit 0 nodes bytes taken) (empty table : List ℕ) (outs : Outputs)
+      → IssuedIn nodes patterns bytes empty 0 outs → finish (usedFrom bytes 0 cells 1) outs ≡ Packed table → Good patterns table
   unfolding finish
-  issued-good bytes taken placed empty table Over issued e = let q : _≡_ {A = ℕ} 0 1 = cc in absurd (omega arith)
-  issued-good bytes taken placed empty table (Out after made n) issued e =
+  issued-good nodes bytes taken placed empty table Over issued e = let q : _≡_ {A = ℕ} 0 1 = cc in absurd (omega arith)
+  issued-good nodes bytes taken placed empty table (Out after made n) issued e =
       let t : bytesOf (usedFrom bytes 0 cells 1) after made n ≡ table = cc in
       subst (λ (l : List ℕ). Good patterns l) t
-      (record { formed = table-judged bytes taken placed empty after made n issued; right = table-right bytes taken placed empty after made n issued })
+      (record { formed = table-judged nodes bytes taken placed empty after made n issued; right = table-right nodes bytes taken placed empty after made n issued })
 
   layout-good : (table : List ℕ) (layout : Layout) → PassingIn patterns patternLimit 0 layout → fitLayout patterns layout ≡ Packed table → Good patterns table
   unfolding fitLayout
   layout-good table Full placed e = let q : _≡_ {A = ℕ} 0 1 = cc in absurd (omega arith)
   layout-good table (Fits bytes taken) placed e =
-      issued-good bytes taken placed (replicate (entrySize * entries) 0) table (outputsOf patterns (Out bytes (replicate (entrySize * entries) 0) 0))
-      (outputs-from (placed .nodes) (placed .laid .tree) patterns (ready bytes taken placed) bytes (replicate (entrySize * entries) 0) 0 (placed .laid .owned) (placed .laid .links) (none-entered (entrySize * entries) refl))
-      e
+      issued-good (placed .0) bytes taken (placed .1) (replicate (entrySize * entries) 0) table (outputsOf patterns (Out bytes (replicate (entrySize * entries) 0) 0))
+      (all-issued (placed .0) bytes taken (placed .1)) e
 
   -- First fit's table is well formed and right for its list.
   pub fitted : (table : List ℕ) → firstFit patterns ≡ Packed table → Good patterns table

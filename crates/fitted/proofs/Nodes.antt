@@ -99,7 +99,7 @@ pub record Placed (nodes : List Node) (u : List ℕ) : Type 0 where
   pub inside : at < length nodes
   pub same : node nodes at .path ≡ u
 
-search-node : (nodes : List Node) (u : List ℕ) → Placed nodes u ⊎ ((i : ℕ) → i < length nodes → node nodes i .path ≡ u → ⊥)
+pub search-node : (nodes : List Node) (u : List ℕ) → Placed nodes u ⊎ ((i : ℕ) → i < length nodes → node nodes i .path ≡ u → ⊥)
 search-node [] u = inr (λ i h e. omega arith)
 search-node (n ∷ nodes) u = go (List-discrete ℕ-discrete (n .path) u) (search-node nodes u)
   where

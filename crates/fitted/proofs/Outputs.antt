@@ -9,8 +9,8 @@ use Rattle.table.specs.Table.{cellSize}
 use Rattle.liang.specs.Patterns.{Pattern}
 use Rattle.right.specs.Paths.{nth}
 use Rattle.fit.specs.Cells.{putNumber, cellOf}
-use Rattle.fit.specs.Entries.{Entries, TooMany, Made, enterPattern, Outputs, Over, Out, putOutput, outputOf, outputsOf}
-use Rattle.fitted.proofs.Bytes.{kindIn, symbolIn, outputIn, put-length, put-kept, put-apart, put-read}
+use Rattle.fit.specs.Entries.{Entries, TooMany, Made, afresh, enterPattern, Outputs, Over, Out, putOutput, outputOf, outputsOf}
+use Rattle.fitted.proofs.Bytes.{kindIn, symbolIn, linkIn, outputIn, put-length, put-kept, put-apart, put-read}
 use Rattle.fitted.proofs.Strings.{_▸_}
 use Rattle.fitted.proofs.Nodes.{Node, node, Owned, Behind, cellBehind, Tree, Linked, one-owner, cell-of, owned-moved, linked-moved}
 use Rattle.fitted.proofs.Chains.{Entered, Kept, Runs, runs-kept, ChainedIn, levels-entered}
@@ -22,6 +22,18 @@ record Written (nodes : List Node) (bytes : List ℕ) (u : List ℕ) (output : �
   links : Linked nodes after
   here : (b : Behind nodes u) → outputIn after (cellBehind nodes u b) ≡ output
   there : (n : ℕ) → ((b : Behind nodes u) → n ≡ cellBehind nodes u b → ⊥) → outputIn after n ≡ outputIn bytes n
+  symbolKept : (n : ℕ) → symbolIn after n ≡ symbolIn bytes n
+  linkKept : (n : ℕ) → linkIn after n ≡ linkIn bytes n
+
+abbrev pub lastOf : Entries → ℕ
+lastOf TooMany = 0
+lastOf (Made bytes count last) = last
+
+-- the number that pattern i of some gets as its output, behind the entries made
+unfoldable pub outputAt : List Pattern → ℕ → Entries → ℕ
+outputAt [] i made = 0
+outputAt (p ∷ rest) zero made = lastOf (enterPattern p made)
+outputAt (p ∷ rest) (suc i) made = outputAt rest i (afresh (enterPattern p made))
 
 -- the cells and entries after the outputs of some patterns
 pub record Issued (nodes : List Node) (rest : List Pattern) (bytes made : List ℕ) (count : ℕ) (after entries : List ℕ) (total : ℕ) : Type 0 where
@@ -35,6 +47,9 @@ pub record Issued (nodes : List Node) (rest : List Pattern) (bytes made : List �
       → Runs entries (nth rest i .levels) (length (nth rest i .symbols)) (suc (length (nth rest i .symbols))) (outputIn after (cellBehind nodes (nth rest i .symbols) b))
   pub within : (i : ℕ) → i < length rest → (b : Behind nodes (nth rest i .symbols)) → outputIn after (cellBehind nodes (nth rest i .symbols) b) ≤ total
   pub others : (n : ℕ) → ((i : ℕ) → i < length rest → (b : Behind nodes (nth rest i .symbols)) → n ≡ cellBehind nodes (nth rest i .symbols) b → ⊥) → outputIn after n ≡ outputIn bytes n
+  pub numbered : (i : ℕ) → i < length rest → (b : Behind nodes (nth rest i .symbols)) → outputIn after (cellBehind nodes (nth rest i .symbols) b) ≡ outputAt rest i (Made made count 0)
+  pub symbolKept : (n : ℕ) → symbolIn after n ≡ symbolIn bytes n
+  pub linkKept : (n : ℕ) → linkIn after n ≡ linkIn bytes n
 
 abbrev pub IssuedIn : List Node → List Pattern → List ℕ → List ℕ → ℕ → Outputs → Type 0
 IssuedIn nodes rest bytes made count Over = Unit
@@ -46,7 +61,7 @@ pub record Ready (nodes : List Node) (rest : List Pattern) : Type 0 where
   pub differ : (i j : ℕ) → i < j → j < length rest → nth rest i .symbols ≡ nth rest j .symbols → ⊥
   pub low : (i : ℕ) → i < length rest → (gap : ℕ) → getD (nth rest i .levels) gap 0 ≤ levelLimit
 
-outputs-over : (rest : List Pattern) → outputsOf rest Over ≡ Over
+pub outputs-over : (rest : List Pattern) → outputsOf rest Over ≡ Over
 unfolding outputsOf outputOf
 outputs-over [] = refl
 outputs-over (p ∷ rest) = outputs-over rest
@@ -72,6 +87,8 @@ module _ (nodes : List Node) (tree : Tree nodes) where
               (λ j s h g. put-apart at output bytes (cellSize * (node nodes j .base + s) + 2) (λ e. omega (arith, e)) (λ e. omega (arith, e)) (λ e. omega (arith, e))) links;
           here = λ b. ap (λ (n : ℕ). outputIn after n) (own b) ∙ put-read at output bytes (room b);
           there = λ n d. put-apart at output bytes (cellSize * n + 4) (λ e. d behind (omega (arith, e, own behind))) (λ e. omega (arith, e)) (λ e. omega (arith, e));
+          symbolKept = symbols;
+          linkKept = λ n. put-apart at output bytes (cellSize * n + 2) (λ e. omega (arith, e)) (λ e. omega (arith, e)) (λ e. omega (arith, e));
         }
       where
         at : ℕ
@@ -95,11 +112,12 @@ module _ (nodes : List Node) (tree : Tree nodes) where
 
   module _ (p : Pattern) (rest : List Pattern) (ready : Ready nodes (p ∷ rest)) (next : Issues rest) where
     -- the first pattern's output, then the others'
-    first-issued : (bytes made : List ℕ) (count : ℕ) → Owned nodes bytes → Linked nodes bytes → (chained : Entries) → ChainedIn (p .levels) (length (p .symbols)) made count (suc (length (p .symbols))) chained
+    first-issued : (bytes made : List ℕ) (count : ℕ) → Owned nodes bytes → Linked nodes bytes → (chained : Entries) → enterPattern p (Made made count 0) ≡ chained
+        → ChainedIn (p .levels) (length (p .symbols)) made count (suc (length (p .symbols))) chained
         → IssuedIn nodes (p ∷ rest) bytes made count (outputsOf rest (putOutput p bytes chained))
     unfolding putOutput
-    first-issued bytes made count owned links TooMany chained = rw (outputs-over rest) tt
-    first-issued bytes made count owned links (Made after total last) chained =
+    first-issued bytes made count owned links TooMany e chained = rw (outputs-over rest) tt
+    first-issued bytes made count owned links (Made after total last) e chained =
         joined (outputsOf rest (Out first after total)) (next first after total (w .owned) (w .links) (chained .entered))
       where
         behind : Behind nodes (p .symbols)
@@ -124,6 +142,9 @@ module _ (nodes : List Node) (tree : Tree nodes) where
               exact = exact;
               within = within;
               others = λ n d. rests .others n (λ i h. d (suc i) (omega arith)) ∙ w .there n (λ b. d 0 (omega arith) b);
+              numbered = numbered;
+              symbolKept = λ n. rests .symbolKept n ∙ w .symbolKept n;
+              linkKept = λ n. rests .linkKept n ∙ w .linkKept n;
             }
           where
             -- no other pattern has the first one's cell
@@ -143,6 +164,11 @@ module _ (nodes : List Node) (tree : Tree nodes) where
             within : (i : ℕ) → i < length (p ∷ rest) → (b : Behind nodes (nth (p ∷ rest) i .symbols)) → outputIn final (cellBehind nodes (nth (p ∷ rest) i .symbols) b) ≤ all
             within zero h b = omega (arith, same b, chained .within, rests .grown)
             within (suc i) h b = rests .within i (omega arith) b
+
+            numbered : (i : ℕ) → i < length (p ∷ rest) → (b : Behind nodes (nth (p ∷ rest) i .symbols))
+                → outputIn final (cellBehind nodes (nth (p ∷ rest) i .symbols) b) ≡ outputAt (p ∷ rest) i (Made made count 0)
+            numbered zero h b = same b ∙ unfold outputAt in ap lastOf (sym e)
+            numbered (suc i) h b = rests .numbered i (omega arith) b ∙ unfold outputAt in ap (λ (x : Entries). outputAt rest i (afresh x)) (sym e)
 
   ready-rest : (p : Pattern) (rest : List Pattern) → Ready nodes (p ∷ rest) → Ready nodes rest
   ready-rest p rest ready =
@@ -166,7 +192,10 @@ module _ (nodes : List Node) (tree : Tree nodes) where
         exact = λ i h. absurd (omega arith);
         within = λ i h. absurd (omega arith);
         others = λ n d. refl;
+        numbered = λ i h. absurd (omega arith);
+        symbolKept = λ n. refl;
+        linkKept = λ n. refl;
       }
   outputs-from (p ∷ rest) ready = λ bytes made count owned links entered.
-      first-issued p rest ready (outputs-from rest (ready-rest p rest ready)) bytes made count owned links _
+      first-issued p rest ready (outputs-from rest (ready-rest p rest ready)) bytes made count owned links _ refl
       (levels-entered (p .levels) (length (p .symbols)) (ready .low 0 (omega arith)) made count entered)

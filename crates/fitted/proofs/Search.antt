@@ -2,7 +2,7 @@
 use Prim.Native.Nat.{ℕ, zero, suc, _+_, _≤_, _<_}
 use mathlib.Core.Bool.{Bool, true, false, cond, not, _||_}
 use mathlib.Core.List.{List}
-use mathlib.Core.Path.{_≡_, refl, subst}
+use mathlib.Core.Path.{_≡_, refl, _∙_, ap, subst}
 use native.Mathlib.Decide.{ℕ-discrete}
 use native.Mathlib.Omega.{arith}
 use borrow.Author.Tests.{eqb-true, ltb-true}
@@ -15,7 +15,7 @@ use Rattle.accepted.proofs.Strings.{both}
 use Rattle.fit.specs.Cells.{isFree, serves, smallest, inside}
 use Rattle.fitted.proofs.Bytes.{symbolIn}
 
-all-at : (test : ℕ → Bool) (n k i : ℕ) → allFrom test k n ≡ true → k ≤ i → i < k + n → test i ≡ true
+pub all-at : (test : ℕ → Bool) (n k i : ℕ) → allFrom test k n ≡ true → k ≤ i → i < k + n → test i ≡ true
 unfolding allFrom
 all-at test zero k i e h l = absurd (omega arith)
 all-at test (suc n) k i e h l = go (ℕ-discrete k i) (both (test k) (allFrom test (suc k) n) e) (all-at test n (suc k) i)
@@ -24,22 +24,33 @@ all-at test (suc n) k i e h l = go (ℕ-discrete k i) (both (test k) (allFrom te
     go (yes p) b next = subst (λ (j : ℕ). test j ≡ true) p (b .0)
     go (no d) b next = next (b .1) (omega arith) (omega arith)
 
--- the smallest of n numbers from k on that passes a test, or the one behind them
+-- the smallest of n numbers from k on that passes a test, or the one behind them: none below it passes
 pub record Smallest (test : ℕ → Bool) (k n found : ℕ) : Type 0 where
   pub low : k ≤ found
   pub high : found ≤ k + n
   pub passes : found < k + n → test found ≡ true
+  pub below : (i : ℕ) → k ≤ i → i < found → test i ≡ false
 
 pub smallest-found : (test : ℕ → Bool) (n k : ℕ) → Smallest test k n (smallest test k n)
 unfolding smallest
-smallest-found test zero k = record { low = omega arith; high = omega arith; passes = λ h. absurd (omega arith) }
+smallest-found test zero k = record { low = omega arith; high = omega arith; passes = λ h. absurd (omega arith); below = λ i h l. absurd (omega arith) }
 smallest-found test (suc n) k = go (test k) refl (smallest-found test n (suc k))
   where
     go : (z : Bool) → test k ≡ z → Smallest test (suc k) n (smallest test (suc k) n) → Smallest test k (suc n) (cond z k (smallest test (suc k) n))
-    go true p next = record { low = omega arith; high = omega arith; passes = λ h. p }
-    go false p next = record { low = omega (arith, next .low); high = omega (arith, next .high); passes = λ h. next .passes (omega arith) }
+    go true p next = record { low = omega arith; high = omega arith; passes = λ h. p; below = λ i h l. absurd (omega arith) }
+    go false p next =
+        record {
+          low = omega (arith, next .low);
+          high = omega (arith, next .high);
+          passes = λ h. next .passes (omega arith);
+          below = λ i h l. at i h l (ℕ-discrete i k);
+        }
+      where
+        at : (i : ℕ) → k ≤ i → i < smallest test (suc k) n → Dec (i ≡ k) → test i ≡ false
+        at i h l (yes e) = ap test e ∙ p
+        at i h l (no d) = next .below i (omega arith) l
 
-wanted : (a b : Bool) → (not a || b) ≡ true → a ≡ true → b ≡ true
+pub wanted : (a b : Bool) → (not a || b) ≡ true → a ≡ true → b ≡ true
 wanted true b e p = e
 wanted false b e p = never p
 

@@ -17,7 +17,7 @@ use Rattle.hyphenation.specs.Sheet.{sheet, written, nonzero}
 use Rattle.hyphenation.specs.Levels.{levelSheet, wordLooks}
 use Rattle.hyphenation.specs.Breaks.{breakSheet, breakLooks}
 use Rattle.hyphenation.specs.Post.{Done}
-use Rattle.hyphenation.specs.Calls.{rootBase, judgeRoom, judgeMargins, judgeLevels, judgeHyphenate, Answered, breaksSheet, breaksLooks}
+use Rattle.hyphenation.specs.Calls.{rootBase, judgeRoom, judgeMargins, judgeLevels, judgeHyphenate, judgeWordAlone, Answered, breaksSheet, breaksLooks}
 use Rattle.hyphenation.specs.declared.Answer.{Answer}
 use Rattle.hyphenation.specs.declared.Answer.the-variants as answers
 use Rattle.hyphenation.proofs.Rooms.{written-take}
@@ -63,6 +63,10 @@ breaks-found left right word customer house table room c e d m =
 pub found : (sheet : List ℕ) (looks : ℕ) (room : List ℕ) {judged judgement : Check} {r : Answer} {after : List ℕ} → judged ≡ judgement → judged ≡ Fine
     → Answered Fine sheet looks room r after → Answered judgement sheet looks room r after
 found sheet looks room p q a = let e = sym p ∙ q in rw e a
+
+pub word-alone-sizes : (word : List ℕ) (size : ℕ) {judged : Check} → judged ≡ judgeWordAlone word size → judged ≡ Fine → (judgeWord wordLimit word ≡ Fine) × (roomSize ≤ size)
+unfolding judgeWordAlone
+word-alone-sizes word size p q = let a = both-fine (judgeRoom size) (judgeWord wordLimit word) (sym p ∙ q) in (a .1, room-fits size (a .0))
 
 pub levels-sizes : (word table : List ℕ) (size : ℕ) {judged : Check} → judged ≡ judgeLevels word table size → judged ≡ Fine → (judgeWord wordLimit word ≡ Fine) × (roomSize ≤ size)
 unfolding judgeLevels

@@ -2,7 +2,6 @@
 use Prim.Native.Nat.{ℕ, _+_, _*_, _-_, _≤_}
 use mathlib.Core.Bool.{Bool}
 use mathlib.Core.List.{List, [], _∷_, map}
-use mathlib.Core.Logic.{_⊎_, inl, inr}
 use mathlib.Core.Path.{_≡_, refl, sym, _∙_, ap}
 use native.Mathlib.Omega.{arith}
 use lib.ListN.{length, take, drop}
@@ -27,8 +26,9 @@ use Rattle.walk.proofs.Count.{looks-few}
 use Rattle.hyphenation.specs.Sheet.{sheet, nonzero, bit}
 use Rattle.hyphenation.specs.Levels.{levelAt, levelSheet, wordLooks}
 use Rattle.hyphenation.specs.Breaks.{breakSheet, unlessListed, breakLooks}
-use Rattle.hyphenation.specs.Calls.{rootBase, judgeRoom, judgeMargins, judgeLevels, judgeHyphenate, answer, Levels, Breaks, WordBreaks}
+use Rattle.hyphenation.specs.Calls.{rootBase, judgeRoom, judgeMargins, judgeLevels, judgeHyphenate, judgeWordAlone, answer, Levels, Breaks, WordBreaks}
 use Rattle.hyphenation.proofs.Rooms.{sheet-same}
+use Rattle.hyphenation.proofs.Order.{levels-ordered, hyphenate-ordered, word-alone-ordered, promised, computed}
 use Rattle.hyphenation.specs.declared.Answer.{Answer}
 use Rattle.hyphenation.specs.declared.Answer.the-variants as answers
 
@@ -50,7 +50,7 @@ word-few cells root word = omega (arith, looks-few cells root (rowOf word), row-
 module _ (word table room after : List ℕ) (marks looks : ℕ) (l : Levels word table room (answers.Found marks looks) after) where
   pub levels-count : looks ≡ wordLooks (cellsOf table) rootBase word
   levels-count =
-      finding (judgeLevels word table (length room)) (levelSheet (cellsOf table) (entriesOf table) rootBase word) _ _ _ (l .answered) .looks-are
+      finding (judgeLevels word table (length room)) (levelSheet (cellsOf table) (entriesOf table) rootBase word) _ _ _ (computed (levels-ordered word table (length room)) l .answered) .looks-are
 
   pub levels-limit : looks ≤ patternLimit * (length word + 2)
   levels-limit = omega (arith, levels-count, word-few (cellsOf table) rootBase word)
@@ -64,26 +64,17 @@ pub breaks-few : (customer house cells : List ℕ) (root : ℕ) (word : List ℕ
 unfolding breakLooks
 breaks-few customer house cells root word = listed-few (findEither word customer house) (wordLooks cells root word) (patternLimit * (length word + 2)) (word-few cells root word)
 
--- "but 0 from the hyphenating call where an exception line decides"
+-- the same for the hyphenating call, whether an exception line decides or not
 module _ (left right : ℕ) (word customer house table room after : List ℕ) (marks looks : ℕ) (b : Breaks left right word customer house table room (answers.Found marks looks) after) where
   breaks-count : looks ≡ breakLooks customer house (cellsOf table) rootBase word
   breaks-count =
-      finding (judgeHyphenate left right word customer house table (length room)) (breakSheet left right customer house (cellsOf table) (entriesOf table) rootBase word) _ _ _ (b .answered) .looks-are
-
-  pub breaks-count-unlisted : findEither word customer house ≡ Nowhere → looks ≡ wordLooks (cellsOf table) rootBase word
-  unfolding breakLooks
-  breaks-count-unlisted e = breaks-count ∙ rw e
-
-  pub breaks-count-listed : {start end : ℕ} (l : Located) → (l ≡ Customer start end) ⊎ (l ≡ House start end) → findEither word customer house ≡ l → looks ≡ 0
-  unfolding breakLooks
-  breaks-count-listed l (inl p) e = breaks-count ∙ rw (e, p)
-  breaks-count-listed l (inr p) e = breaks-count ∙ rw (e, p)
+      finding (judgeHyphenate left right word customer house table (length room)) (breakSheet left right customer house (cellsOf table) (entriesOf table) rootBase word) _ _ _ (computed (hyphenate-ordered left right word customer house table (length room)) b .answered) .looks-are
 
   pub breaks-limit : looks ≤ patternLimit * (length word + 2)
   breaks-limit = omega (arith, breaks-count, breaks-few customer house (cellsOf table) rootBase word)
 
 -- a break asks the levels at its own gap alone
-break-same : (l m : Located) (customer house : List ℕ) (f g : ℕ → Bool) (i : ℕ) → l ≡ m → f i ≡ g i → breakBy l customer house f i ≡ breakBy m customer house g i
+pub break-same : (l m : Located) (customer house : List ℕ) (f g : ℕ → Bool) (i : ℕ) → l ≡ m → f i ≡ g i → breakBy l customer house f i ≡ breakBy m customer house g i
 break-same l m customer house f g i e h = rw e (go m)
   where
     go : (k : Located) → breakBy k customer house f i ≡ breakBy k customer house g i
@@ -127,7 +118,9 @@ module _ (word other : List ℕ) (letters : map lower word ≡ map lower other) 
 
   pub levels-case : (table room : List ℕ) {r s : Answer} {after after′ : List ℕ} → Levels word table room r after → Levels other table room s after′ → (r ≡ s) × (after ≡ after′)
   unfolding judgeLevels
-  levels-case table room a b =
+  levels-case table room p q =
+      let a = computed (levels-ordered word table (length room)) p in
+      let b = computed (levels-ordered other table (length room)) q in
       let j : judgeLevels word table (length room) ≡ judgeLevels other table (length room) = rw (same-judgement word other letters wordLimit) in (
         a .answered ∙ rw (j, same-levels (cellsOf table) (entriesOf table) rootBase, same-looks (cellsOf table) rootBase) (sym (b .answered)),
         a .memory ∙ rw (j, same-levels (cellsOf table) (entriesOf table) rootBase) (sym (b .memory)),
@@ -136,7 +129,9 @@ module _ (word other : List ℕ) (letters : map lower word ≡ map lower other) 
   pub breaks-case : (left right : ℕ) (customer house table room : List ℕ) {r s : Answer} {after after′ : List ℕ}
       → Breaks left right word customer house table room r after → Breaks left right other customer house table room s after′ → (r ≡ s) × (after ≡ after′)
   unfolding judgeHyphenate
-  breaks-case left right customer house table room a b =
+  breaks-case left right customer house table room p q =
+      let a = computed (hyphenate-ordered left right word customer house table (length room)) p in
+      let b = computed (hyphenate-ordered left right other customer house table (length room)) q in
       let j : judgeHyphenate left right word customer house table (length room) ≡ judgeHyphenate left right other customer house table (length room) = rw (same-judgement word other letters wordLimit) in (
         a .answered ∙ rw (j, same-breaks left right customer house (cellsOf table) (entriesOf table) rootBase, same-count customer house (cellsOf table) rootBase) (sym (b .answered)),
         a .memory ∙ rw (j, same-breaks left right customer house (cellsOf table) (entriesOf table) rootBase) (sym (b .memory)),
@@ -188,22 +183,24 @@ module _ (word c h c′ h′ : List ℕ) (own : Agree word c c′) (other : Agre
   pub other-lines : (left right : ℕ) (table room : List ℕ) {r s : Answer} {after after′ : List ℕ} → judgeLists c h ≡ Fine → judgeLists c′ h′ ≡ Fine
       → Breaks left right word c h table room r after → Breaks left right word c′ h′ table room s after′ → (r ≡ s) × (after ≡ after′)
   unfolding judgeHyphenate
-  other-lines left right table room g g′ a b =
+  other-lines left right table room g g′ p q =
+      let a = computed (hyphenate-ordered left right word c h table (length room)) p in
+      let b = computed (hyphenate-ordered left right word c′ h′ table (length room)) q in
       let j : judgeHyphenate left right word c h table (length room) ≡ judgeHyphenate left right word c′ h′ table (length room) = rw (g, g′) in (
         a .answered ∙ rw (j, agree-breaks left right (cellsOf table) (entriesOf table) rootBase, agree-count (cellsOf table) rootBase) (sym (b .answered)),
         a .memory ∙ rw (j, agree-breaks left right (cellsOf table) (entriesOf table) rootBase) (sym (b .memory)),
       )
 
--- Judged once: over margins, a room, lists and a table that were judged good, the call for a word alone keeps the promise of the
+-- Judged once: over margins, lists and a table that were judged good, the call for a word alone keeps the promise of the
 -- hyphenating call.
 alone : (judged : Check) → first judged Fine ≡ judged
 alone Fine = refl
 alone (Refused g) = refl
 
 pub judged-once : (left right : ℕ) (word customer house table room : List ℕ) {r : Answer} {after : List ℕ}
-    → judgeMargins left right ≡ Fine → judgeRoom (length room) ≡ Fine → judgeLists customer house ≡ Fine → judgeTable table ≡ Fine
+    → judgeMargins left right ≡ Fine → judgeLists customer house ≡ Fine → judgeTable table ≡ Fine
     → WordBreaks left right word customer house table room r after → Breaks left right word customer house table room r after
-unfolding judgeHyphenate
-judged-once left right word customer house table room m s l t w =
-    let e : judgeHyphenate left right word customer house table (length room) ≡ judgeWord wordLimit word = rw (m, s, l, t) (alone (judgeWord wordLimit word)) in
-    rw e w
+unfolding judgeHyphenate judgeWordAlone
+judged-once left right word customer house table room m l t w =
+    let e : judgeHyphenate left right word customer house table (length room) ≡ judgeWordAlone word (length room) = rw (m, l, t) (ap (first (judgeRoom (length room))) (alone (judgeWord wordLimit word))) in
+    promised (hyphenate-ordered left right word customer house table (length room)) (rw e (computed (word-alone-ordered word (length room)) w))

@@ -1,19 +1,19 @@
 -- The levels call and the hyphenating call: their grounds in order, their answers, and what they leave in the room.
 use Prim.Native.Nat.{ℕ}
 use mathlib.Core.Bool.{_||_}
-use mathlib.Core.List.{List}
+use mathlib.Core.List.{List, [], _∷_, _++_}
 use mathlib.Core.Path.{_≡_}
 use lib.Dec.{ltb}
 use lib.ListN.{length}
 use Rattle.base.specs.Limits.{wordLimit, roomSize}
-use Rattle.base.specs.Grounds.{first, refuseIf}
+use Rattle.base.specs.Grounds.{told, Said, Finds, Refuses, Row, on, firstOf, first, refuseIf}
 use Rattle.base.specs.declared.Check.{Check}
 use Rattle.base.specs.declared.Check.the-variants.{Fine, Refused}
 use Rattle.base.specs.declared.Ground.the-variants.{Margin, RoomShort}
-use Rattle.words.specs.Words.{judgeWord}
-use Rattle.lists.specs.Lists.{judgeLists}
+use Rattle.words.specs.Words.{wordGrounds, judgeWord}
+use Rattle.lists.specs.Lists.{listGrounds, judgeLists}
 use Rattle.liang.specs.Breaks.{badMargin}
-use Rattle.table.specs.Table.{judgeTable, cellsOf, entriesOf}
+use Rattle.table.specs.Table.{tableGrounds, judgeTable, cellsOf, entriesOf}
 use Rattle.hyphenation.specs.Sheet.{written, nonzero}
 use Rattle.hyphenation.specs.Levels.{levelSheet, wordLooks}
 use Rattle.hyphenation.specs.Breaks.{breakSheet, breakLooks}
@@ -25,18 +25,55 @@ abbrev pub rootBase : ℕ
 rootBase = 0
 
 -- Ground 5: "break or level room under 64 bytes".
+unfoldable pub roomGrounds : ℕ → List Row
+roomGrounds size = on 5 (ltb size roomSize) ∷ []
+
+-- Ground 1: "a margin outside 1 to 63".
+unfoldable pub marginGrounds : ℕ → ℕ → List Row
+marginGrounds left right = on 1 (badMargin left || badMargin right) ∷ []
+
+-- "levels call 5, 2, 4, 3, 9"
+unfoldable pub levelsGrounds : List ℕ → List ℕ → ℕ → List Row
+levelsGrounds word table size = roomGrounds size ++ (wordGrounds wordLimit word ++ tableGrounds table)
+
+-- "hyphenating call 1, 5, 2, 4, 3, 8 (customer, house), 6 (customer, house), 9"
+unfoldable pub hyphenateGrounds : ℕ → ℕ → List ℕ → List ℕ → List ℕ → List ℕ → ℕ → List Row
+hyphenateGrounds left right word customer house table size =
+    marginGrounds left right ++ (roomGrounds size ++ (wordGrounds wordLimit word ++ (listGrounds customer house ++ tableGrounds table)))
+
+-- The hyphenating call for a word alone, where margins, lists and table were judged before: 5, 2, 4, 3 are left.
+unfoldable pub wordAloneGrounds : List ℕ → ℕ → List Row
+wordAloneGrounds word size = roomGrounds size ++ wordGrounds wordLimit word
+
+-- What an answer says: "the number of breaks and the count", or of levels that aren't 0; or why the call refuses.
+unfoldable pub answerSaid : Answer → Said
+answerSaid (answers.Found marks looks) = Finds (marks ∷ looks ∷ [])
+answerSaid (answers.Refused g) = Refuses (told g)
+
+-- What a call says by the order of its grounds: a finding tells how many bytes of its sheet aren't 0, and the count of looks.
+abbrev pub foundOr : List Row → List ℕ → ℕ → Said
+foundOr grounds sheet looks = firstOf (Finds (nonzero sheet ∷ looks ∷ [])) grounds
+
+-- "Refusals leave lent memory untouched"; a finding writes its sheet.
+abbrev pub roomLeft : Said → List ℕ → List ℕ → List ℕ
+roomLeft (Finds values) sheet room = written sheet room
+roomLeft (Refuses t) sheet room = room
+
+-- The promise of a call by the order of its grounds, one sheet and one count of looks.
+pub record Answers (grounds : List Row) (sheet : List ℕ) (looks : ℕ) (room : List ℕ) (r : Answer) (after : List ℕ) : Type 0 where
+  pub answered : answerSaid r ≡ foundOr grounds sheet looks
+  pub memory : after ≡ roomLeft (foundOr grounds sheet looks) sheet room
+
+-- The same as it is computed: one judgement after the other, and then the answer and the room by what they come to.
 unfoldable pub judgeRoom : ℕ → Check
 judgeRoom size = refuseIf (ltb size roomSize) RoomShort
 
--- Ground 1: "a margin outside 1 to 63".
 unfoldable pub judgeMargins : ℕ → ℕ → Check
 judgeMargins left right = refuseIf (badMargin left || badMargin right) Margin
 
--- "levels call 5, 2, 4, 3, 9"
 unfoldable pub judgeLevels : List ℕ → List ℕ → ℕ → Check
 judgeLevels word table size = first (judgeRoom size) (first (judgeWord wordLimit word) (judgeTable table))
 
--- "hyphenating call 1, 5, 2, 4, 3, 8 (customer, house), 6 (customer, house), 9"
 unfoldable pub judgeHyphenate : ℕ → ℕ → List ℕ → List ℕ → List ℕ → List ℕ → ℕ → Check
 judgeHyphenate left right word customer house table size =
     first (judgeMargins left right)
@@ -44,18 +81,17 @@ judgeHyphenate left right word customer house table size =
     (first (judgeWord wordLimit word)
     (first (judgeLists customer house) (judgeTable table))))
 
--- "An answer is either a finding or a refusal that carries its ground and place": a finding tells how many bytes of its sheet
--- aren't 0, and the count of looks.
+unfoldable pub judgeWordAlone : List ℕ → ℕ → Check
+judgeWordAlone word size = first (judgeRoom size) (judgeWord wordLimit word)
+
 abbrev pub answer : Check → List ℕ → ℕ → Answer
 answer Fine sheet looks = answers.Found (nonzero sheet) looks
 answer (Refused g) sheet looks = answers.Refused g
 
--- "Refusals leave lent memory untouched"; a finding writes its sheet.
 abbrev pub roomAfter : Check → List ℕ → List ℕ → List ℕ
 roomAfter Fine sheet room = written sheet room
 roomAfter (Refused g) sheet room = room
 
--- A call returns its answer and leaves its room by one judgement, one sheet and one count of looks.
 pub record Answered (judged : Check) (sheet : List ℕ) (looks : ℕ) (room : List ℕ) (r : Answer) (after : List ℕ) : Type 0 where
   pub answered : r ≡ answer judged sheet looks
   pub memory : after ≡ roomAfter judged sheet room
@@ -69,7 +105,7 @@ levelsRoom word table room = roomAfter (judgeLevels word table (length room)) (l
 
 -- The promise of the levels call.
 abbrev pub Levels : (word table room : List ℕ) → Answer → List ℕ → Type 0
-Levels word table room = Answered (judgeLevels word table (length room))
+Levels word table room = Answers (levelsGrounds word table (length room))
     (levelSheet (cellsOf table) (entriesOf table) rootBase word) (wordLooks (cellsOf table) rootBase word) room
 
 -- The hyphenating call's sheet and count over a table.
@@ -90,18 +126,18 @@ breaksRoom left right word customer house table room =
 
 -- The promise of the hyphenating call.
 abbrev pub Breaks : (left right : ℕ) (word customer house table room : List ℕ) → Answer → List ℕ → Type 0
-Breaks left right word customer house table room = Answered (judgeHyphenate left right word customer house table (length room))
+Breaks left right word customer house table room = Answers (hyphenateGrounds left right word customer house table (length room))
     (breaksSheet left right word customer house table) (breaksLooks word customer house table) room
 
 -- Its part behind all judgements.
 abbrev pub Found : (left right : ℕ) (word customer house table room : List ℕ) → Answer → List ℕ → Type 0
 Found left right word customer house table room = Answered Fine (breaksSheet left right word customer house table) (breaksLooks word customer house table) room
 
--- The hyphenating call for a word alone, where margins, room, lists and table were judged before: grounds 2, 4 and 3 are left.
-abbrev pub wordAnswer : ℕ → ℕ → List ℕ → List ℕ → List ℕ → List ℕ → Answer
-wordAnswer left right word customer house table =
-    answer (judgeWord wordLimit word) (breaksSheet left right word customer house table) (breaksLooks word customer house table)
+-- The hyphenating call for a word alone: what it answers for a room of this size, and its promise.
+abbrev pub wordAnswer : ℕ → ℕ → List ℕ → List ℕ → List ℕ → List ℕ → ℕ → Answer
+wordAnswer left right word customer house table size =
+    answer (judgeWordAlone word size) (breaksSheet left right word customer house table) (breaksLooks word customer house table)
 
 abbrev pub WordBreaks : (left right : ℕ) (word customer house table room : List ℕ) → Answer → List ℕ → Type 0
-WordBreaks left right word customer house table room = Answered (judgeWord wordLimit word)
+WordBreaks left right word customer house table room = Answers (wordAloneGrounds word (length room))
     (breaksSheet left right word customer house table) (breaksLooks word customer house table) room

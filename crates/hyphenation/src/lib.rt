@@ -2,10 +2,12 @@
 use base::Check;
 use base::Ground;
 use lookup::Located;
+ghost use mathlib.Core.List.{[]};
 ghost use mathlib.Core.Path.{_≡_};
 ghost use Prim.Native.Nat.{_≤_};
 ghost use lib.ListN.{length, take, getD};
 ghost use Rattle.base.specs.Limits.{roomSize, wordLimit};
+ghost use Rattle.base.specs.Grounds.{Finds, says, firstOf};
 ghost use Rattle.base.specs.declared.Check.{Check};
 ghost use Rattle.words.specs.Words.{judgeWord};
 ghost use Rattle.liang.specs.Breaks.{badMargin, levelBreak};
@@ -13,7 +15,7 @@ ghost use Rattle.hyphenation.specs.Sheet.{sheet, written, nonzero, bit};
 ghost use Rattle.hyphenation.specs.Levels.{levelSheet, wordLooks};
 ghost use Rattle.hyphenation.specs.Breaks.{mark, breakSheet, breakLooks};
 ghost use Rattle.hyphenation.specs.Post.{Done, lineSheet, oddSheet, Inside};
-ghost use Rattle.hyphenation.specs.Calls.{judgeRoom, judgeMargins, judgeLevels, judgeHyphenate, Levels, Breaks, Found, WordBreaks};
+ghost use Rattle.hyphenation.specs.Calls.{roomGrounds, marginGrounds, levelsGrounds, hyphenateGrounds, wordAloneGrounds, Levels, Breaks, Found, WordBreaks};
 
 // What a call answers: how many bytes of the room it set, with the count of looks, or why it refuses.
 pub enum Answer {
@@ -23,7 +25,7 @@ pub enum Answer {
 
 // Ground 5.
 pub fn judge_room(size: usize) -> Check
-    ensures { λ r. ⌜ r ≡ judgeRoom size ⌝ }
+    ensures { λ r. ⌜ says r ≡ firstOf (Finds []) (roomGrounds size) ⌝ }
 {
     if size < base::ROOM {
         return Check::Refused(Ground::RoomShort);
@@ -42,7 +44,7 @@ fn is_bad_margin(margin: usize) -> bool
 
 // Ground 1.
 pub fn judge_margins(left: usize, right: usize) -> Check
-    ensures { λ r. ⌜ r ≡ judgeMargins left right ⌝ }
+    ensures { λ r. ⌜ says r ≡ firstOf (Finds []) (marginGrounds left right) ⌝ }
 {
     if is_bad_margin(left) {
         return Check::Refused(Ground::Margin);
@@ -55,7 +57,7 @@ pub fn judge_margins(left: usize, right: usize) -> Check
 
 // The grounds of the levels call: 5, 2, 4, 3, 9.
 pub fn judge_levels(word: &[u8], table: &[u8], size: usize) -> Check
-    ensures { λ r. ⌜ r ≡ judgeLevels (now (word .entry)) (now (table .entry)) size ⌝ }
+    ensures { λ r. ⌜ says r ≡ firstOf (Finds []) (levelsGrounds (now (word .entry)) (now (table .entry)) size) ⌝ }
 {
     let room = judge_room(size);
     if let Check::Refused(g) = room {
@@ -68,6 +70,17 @@ pub fn judge_levels(word: &[u8], table: &[u8], size: usize) -> Check
     table::judge_table(table)
 }
 
+// The grounds of the hyphenating call for a word alone: 5, 2, 4, 3.
+pub fn judge_word_alone(word: &[u8], size: usize) -> Check
+    ensures { λ r. ⌜ says r ≡ firstOf (Finds []) (wordAloneGrounds (now (word .entry)) size) ⌝ }
+{
+    let room = judge_room(size);
+    if let Check::Refused(g) = room {
+        return Check::Refused(g);
+    }
+    words::judge_word(word, base::WORD_LIMIT)
+}
+
 // The grounds of the hyphenating call: 1, 5, 2, 4, 3, 8, 6, 9.
 pub fn judge_hyphenate(
     left: usize,
@@ -78,7 +91,7 @@ pub fn judge_hyphenate(
     table: &[u8],
     size: usize,
 ) -> Check
-    ensures { λ r. ⌜ r ≡ judgeHyphenate left right (now (word .entry)) (now (customer .entry)) (now (house .entry)) (now (table .entry)) size ⌝ }
+    ensures { λ r. ⌜ says r ≡ firstOf (Finds []) (hyphenateGrounds left right (now (word .entry)) (now (customer .entry)) (now (house .entry)) (now (table .entry)) size) ⌝ }
 {
     let margins = judge_margins(left, right);
     if let Check::Refused(g) = margins {
@@ -117,7 +130,7 @@ fn put_levels(levels: &[u8; base::ROOM], room: &mut [u8])
     ensures { λ _. ⌜ now (room .exit) ≡ written (sheet (λ i. getD (now (levels .entry)) i 0)) (now (room .entry)) ⌝ }
 {
     let mut i = 0;
-    while i < base::ROOM {
+    while i < base::ROOM { // the bytes behind the word's gaps too
         room[i] = levels[i];
         i += 1;
     }
@@ -305,8 +318,8 @@ pub fn hyphenate<'a>(
     find_breaks(left, right, word, customer, house, table, room)
 }
 
-// The hyphenating call for a word, where margins, room, lists and table were judged before: whoever has many words judges these
-// once. Over lists or a table that weren't it still is safe and ends.
+// The hyphenating call for a word, where margins, lists and table were judged before: whoever has many words judges these once.
+// Room and word it judges itself. Over lists or a table that weren't judged it still is safe and ends.
 pub fn hyphenate_word<'a>(
     left: usize,
     right: usize,
@@ -316,10 +329,9 @@ pub fn hyphenate_word<'a>(
     table: &[u8],
     room: &mut [u8],
 ) -> Answer
-    requires { ⌜ roomSize ≤ length (now room) ⌝ }
     ensures { λ r. ⌜ WordBreaks left right (now (word .entry)) (now (customer .entry)) (now (house .entry)) (now (table .entry)) (now (room .entry)) r (now (room .exit)) ⌝ }
 {
-    let judged = words::judge_word(word, base::WORD_LIMIT);
+    let judged = judge_word_alone(word, room.len());
     if let Check::Refused(g) = judged {
         return Answer::Refused(g);
     }

@@ -2,12 +2,14 @@
 use base::Check;
 use base::Ground;
 use lines::End;
+ghost use mathlib.Core.List.{[]};
 ghost use mathlib.Core.Path.{_≡_};
 ghost use Prim.Native.Nat.{_+_};
 ghost use lib.ListN.{drop};
+ghost use Rattle.base.specs.Grounds.{Finds, says, firstOf};
 ghost use Rattle.lines.specs.Lines.{lineLength, firstLine};
 ghost use Rattle.lines.specs.Ends.{endIf};
-ghost use Rattle.lists.specs.Lists.{goodLine, judgeLines, judgeSize, badPattern, badException, judgePatterns, judgeExceptions, judgeLists};
+ghost use Rattle.lists.specs.Lists.{goodLine, judgeLines, sizeGrounds, badPattern, badException, patternGrounds, exceptionGrounds, listGrounds};
 
 // What the lines of a list are.
 pub enum Form {
@@ -52,7 +54,7 @@ pub fn judge_lines(form: Form, text: &[u8]) -> Lines
 }
 
 pub fn judge_size(limit: usize, text: &[u8]) -> Check
-    ensures { λ r. ⌜ r ≡ judgeSize limit (now (text .entry)) ⌝ }
+    ensures { λ r. ⌜ says r ≡ firstOf (Finds []) (sizeGrounds limit (now (text .entry))) ⌝ }
 {
     if limit < text.len() {
         return Check::Refused(Ground::TextLong);
@@ -83,7 +85,7 @@ fn bad_exception(list: usize, found: Lines) -> Check
 
 // A pattern text: 8, then 7.
 pub fn judge_patterns(text: &[u8]) -> Check
-    ensures { λ r. ⌜ r ≡ judgePatterns (now (text .entry)) ⌝ }
+    ensures { λ r. ⌜ says r ≡ firstOf (Finds []) (patternGrounds (now (text .entry))) ⌝ }
 {
     let size = judge_size(base::PATTERN_TEXT, text);
     if let Check::Refused(g) = size {
@@ -94,7 +96,7 @@ pub fn judge_patterns(text: &[u8]) -> Check
 
 // An exception text of at most limit bytes: 8, then 6 with the list's number.
 pub fn judge_exceptions(list: usize, limit: usize, text: &[u8]) -> Check
-    ensures { λ r. ⌜ r ≡ judgeExceptions list limit (now (text .entry)) ⌝ }
+    ensures { λ r. ⌜ says r ≡ firstOf (Finds []) (exceptionGrounds list limit (now (text .entry))) ⌝ }
 {
     let size = judge_size(limit, text);
     if let Check::Refused(g) = size {
@@ -105,7 +107,7 @@ pub fn judge_exceptions(list: usize, limit: usize, text: &[u8]) -> Check
 
 // Both exception texts: 8 for either, then 6 for the customer's, then 6 for the house's.
 pub fn judge_lists(customer: &[u8], house: &[u8]) -> Check
-    ensures { λ r. ⌜ r ≡ judgeLists (now (customer .entry)) (now (house .entry)) ⌝ }
+    ensures { λ r. ⌜ says r ≡ firstOf (Finds []) (listGrounds (now (customer .entry)) (now (house .entry))) ⌝ }
 {
     let size = judge_size(base::EXCEPTION_TEXT, customer);
     if let Check::Refused(g) = size {

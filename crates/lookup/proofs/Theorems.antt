@@ -1,11 +1,13 @@
 -- A listed word is found and an unlisted one is not, whatever the case of its letters.
 use Prim.Native.Nat.{ℕ, zero, suc, _+_, _-_, _≤_, _<_}
 use mathlib.Core.Bool.{Bool, true, false, cond, _&&_}
-use mathlib.Core.List.{List, [], _∷_, _++_, map}
+use mathlib.Core.List.{List, [], _∷_, _++_, map, List-discrete}
+use mathlib.Core.Logic.{_⊎_, inl, inr}
 use mathlib.Core.Path.{_≡_, refl, sym, _∙_, ap, ap₂}
+use native.Mathlib.Decide.{ℕ-discrete}
 use native.Mathlib.Omega.{arith}
 use borrow.Author.Tests.{eqb-true, eq-eqb}
-use lib.Dec.{ltb, eqb}
+use lib.Dec.{eqb}
 use lib.ListN.{length, getD, take, drop}
 use lib.Seq.{take-append-le, drop-append-add}
 use Rattle.base.specs.Limits.{wordLimit, exceptionText, customerList, houseList}
@@ -22,12 +24,11 @@ use Rattle.lists.specs.declared.Form.the-variants.{Exceptions}
 use Rattle.lists.specs.declared.Lines.{Lines}
 use Rattle.lists.specs.declared.Lines.the-variants.{Good, BadAt}
 use Rattle.lists.proofs.Theorems.{at-most-once}
-use Rattle.lookup.specs.Find.{same, findLine, find, ownFirst, findEither}
-use Rattle.lookup.specs.Lookup.{judgeLookup, unlessRefused, locate, lineOf}
-use Rattle.lookup.specs.declared.Found.{Found}
+use Rattle.lookup.specs.Find.{same, findLine, find, findEither}
+use Rattle.lookup.specs.Listed.{Listed, shown}
+use Rattle.lookup.specs.Lookup.{judgeLookup, locate, lineOf}
 use Rattle.lookup.specs.declared.Found.the-variants.{At, Nothing}
-use Rattle.lookup.specs.declared.Located.{Located}
-use Rattle.lookup.specs.declared.Located.the-variants.{Customer, House, Nowhere}
+use Rattle.lookup.specs.declared.Located.the-variants.{Nowhere}
 
 pub same-true : (a b : List ℕ) → same a b ≡ true → a ≡ b
 unfolding same
@@ -105,28 +106,19 @@ read-back [] i n h k = absurd (omega arith)
 read-back (l ∷ ls) zero n h k = take-append-le n l (join ls) k
 read-back (l ∷ ls) (suc i) n h k = rw (drop-append-add l (join ls) (offsetOf ls i)) (read-back ls i n (omega arith) k)
 
--- A word is listed in a text: one of its lines has the word's symbols.
-pub record Listed (word text : List ℕ) : Type 0 where
-  pub at : ℕ
-  pub within : at < length (cut text)
-  pub symbols : symbolsOf (getD (cut text) at []) ≡ wordSymbols word
-
--- The listed line, "without its line feed".
-pub shown : (word text : List ℕ) → Listed word text → List ℕ
-shown word text l = take (length (getD (cut text) (l .at) []) - 1) (getD (cut text) (l .at) [])
-
-find-listed : (word text : List ℕ) → judgeLines Exceptions text ≡ Good → (l : Listed word text)
+-- the search ends at a listed word's line, and nowhere for another
+pub find-listed : (word text : List ℕ) → judgeLines Exceptions text ≡ Good → (l : Listed word text)
     → find word text ≡ At (0 + offsetOf (cut text) (l .at)) (0 + offsetOf (cut text) (l .at) + (length (getD (cut text) (l .at) []) - 1))
 unfolding find
 find-listed word text good l =
     find-nth (wordSymbols word) 0 (cut text) (l .at) (l .within) (l .symbols)
     (λ j k e. omega (arith, k, at-most-once Exceptions text good j (l .at) (omega (arith, l .within)) (l .within) (e ∙ sym (l .symbols))))
 
-find-unlisted : (word text : List ℕ) → (Listed word text → ⊥) → find word text ≡ Nothing
+pub find-unlisted : (word text : List ℕ) → (Listed word text → ⊥) → find word text ≡ Nothing
 unfolding find
 find-unlisted word text n = find-none (wordSymbols word) 0 (cut text) (λ i h e. n (record { at = i; within = h; symbols = e }))
 
-part-listed : (word text : List ℕ) (l : Listed word text) (s e : ℕ) → s ≡ 0 + offsetOf (cut text) (l .at)
+pub part-listed : (word text : List ℕ) (l : Listed word text) (s e : ℕ) → s ≡ 0 + offsetOf (cut text) (l .at)
     → e ≡ 0 + offsetOf (cut text) (l .at) + (length (getD (cut text) (l .at) []) - 1) → take (e - s) (drop s text) ≡ shown word text l
 unfolding shown
 part-listed word text l s e p q =
@@ -134,6 +126,32 @@ part-listed word text l s e p q =
     let o : s ≡ offsetOf (cut text) (l .at) = omega arith in
     rw (n, o) (ap (λ (t : List ℕ). take (length (getD (cut text) (l .at) []) - 1) (drop (offsetOf (cut text) (l .at)) t)) (sym (join-cut text))
     ∙ read-back (cut text) (l .at) (length (getD (cut text) (l .at) []) - 1) (l .within) (omega arith))
+
+-- a line with these symbols is among some lines, or none is
+line-or-none : (key : List ℕ) (ls : List (List ℕ))
+    → ((i : ℕ) × (i < length ls) × (symbolsOf (getD ls i []) ≡ key)) ⊎ ((i : ℕ) → i < length ls → symbolsOf (getD ls i []) ≡ key → ⊥)
+line-or-none key [] = inr (λ i h e. omega arith)
+line-or-none key (l ∷ ls) = go (List-discrete ℕ-discrete (symbolsOf l) key) (line-or-none key ls)
+  where
+    go : Dec (symbolsOf l ≡ key) → ((i : ℕ) × (i < length ls) × (symbolsOf (getD ls i []) ≡ key)) ⊎ ((i : ℕ) → i < length ls → symbolsOf (getD ls i []) ≡ key → ⊥)
+        → ((i : ℕ) × (i < length (l ∷ ls)) × (symbolsOf (getD (l ∷ ls) i []) ≡ key)) ⊎ ((i : ℕ) → i < length (l ∷ ls) → symbolsOf (getD (l ∷ ls) i []) ≡ key → ⊥)
+    go (yes e) rest = inl (0, omega arith, e)
+    go (no d) (inl (i, h, e)) = inl (suc i, omega arith, e)
+    go (no d) (inr none) = inr other
+      where
+        other : (i : ℕ) → i < length (l ∷ ls) → symbolsOf (getD (l ∷ ls) i []) ≡ key → ⊥
+        other zero h e = d e
+        other (suc i) h e = none i (omega arith) e
+
+-- A word is listed in a text or it is not: what is said of words that are and of words that are not is said of all.
+pub listed-or-not : (word text : List ℕ) → Listed word text ⊎ (Listed word text → ⊥)
+listed-or-not word text = go (line-or-none (wordSymbols word) (cut text))
+  where
+    go : ((i : ℕ) × (i < length (cut text)) × (symbolsOf (getD (cut text) i []) ≡ wordSymbols word))
+        ⊎ ((i : ℕ) → i < length (cut text) → symbolsOf (getD (cut text) i []) ≡ wordSymbols word → ⊥)
+        → Listed word text ⊎ (Listed word text → ⊥)
+    go (inl (i, h, e)) = inl (record { at = i; within = h; symbols = e })
+    go (inr none) = inr (λ l. none (l .at) (l .within) (l .symbols))
 
 -- what it says of the parts that judgements in order are fine
 pub first-fine : (a b : Check) → first a b ≡ Fine → (a ≡ Fine) × (b ≡ Fine)

@@ -1,11 +1,13 @@
 // The lookup of a word's exception line.
 use base::Check;
+ghost use mathlib.Core.List.{[]};
 ghost use mathlib.Core.Path.{_≡_};
 ghost use denote.Ref.{ptr};
+ghost use Rattle.base.specs.Grounds.{Finds, says, firstOf};
 ghost use Rattle.words.specs.Symbols.{symbolsOf};
 ghost use Rattle.words.specs.Words.{wordSymbols};
 ghost use Rattle.lookup.specs.Find.{same, find, findEither};
-ghost use Rattle.lookup.specs.Lookup.{judgeLookup, locate, lineOf, placeOf};
+ghost use Rattle.lookup.specs.Lookup.{lookupGrounds, lineSaid, lookupSaid, locate, lineOf, placeOf};
 
 // Where a word's line stands in one list, without its line feed.
 pub enum Found {
@@ -83,7 +85,7 @@ pub fn find_either(word: &[u8], customer: &[u8], house: &[u8]) -> Located
 
 // Grounds 2, 4, 3, 8 and 6.
 pub fn judge_lookup(word: &[u8], customer: &[u8], house: &[u8]) -> Check
-    ensures { λ r. ⌜ r ≡ judgeLookup (now (word .entry)) (now (customer .entry)) (now (house .entry)) ⌝ }
+    ensures { λ r. ⌜ says r ≡ firstOf (Finds []) (lookupGrounds (now (word .entry)) (now (customer .entry)) (now (house .entry))) ⌝ }
 {
     let own = words::judge_word(word, base::WORD_LIMIT);
     if let Check::Refused(g) = own {
@@ -94,7 +96,7 @@ pub fn judge_lookup(word: &[u8], customer: &[u8], house: &[u8]) -> Check
 
 // Where the lookup finds the word's line; nowhere on a refusal.
 pub fn locate_line(word: &[u8], customer: &[u8], house: &[u8]) -> Located
-    ensures { λ r. ⌜ r ≡ locate (now (word .entry)) (now (customer .entry)) (now (house .entry)) ⌝ }
+    ensures { λ r. ⌜ lineSaid r ≡ lookupSaid (now (word .entry)) (now (customer .entry)) (now (house .entry)) ⌝ }
 {
     let judged = judge_lookup(word, customer, house);
     if let Check::Refused(_) = judged {

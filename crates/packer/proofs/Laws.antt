@@ -1,6 +1,6 @@
 -- Laws about the pack room: one for each way through the code.
 use Prim.Native.Nat.{ℕ, zero, suc, _+_, _*_, _-_, _/_, _%_, _≤_, _<_}
-use mathlib.Core.Bool.{Bool, true, false, cond}
+use mathlib.Core.Bool.{cond}
 use mathlib.Core.List.{List, [], _∷_, _++_, map, append-assoc}
 use mathlib.Core.Path.{_≡_, refl, sym, _∙_, ap, subst}
 use native.Mathlib.Numerals.{add-one}
@@ -23,13 +23,13 @@ use Rattle.table.specs.Table.{putNumber}
 use Rattle.right.specs.Paths.{nth}
 use Rattle.accepted.specs.Shaped.{Shaped}
 use Rattle.acceptance.proofs.Lists.{good-patterns}
-use Rattle.fit.specs.Cells.{Layout, Full, Fits, isFree, cellOf, placeLengths, layoutOf, usedFrom}
+use Rattle.fit.specs.Cells.{Full, Fits, isFree, cellOf, placeLengths, layoutOf, usedFrom}
 use Rattle.fit.specs.Entries.{Entries, TooMany, Made, Outputs, Over, Out, enterLevels, enterPattern, putOutput, outputOf, outputsOf}
 use Rattle.fit.specs.Table.{Fit, NoRoom, Packed, putKinds, bytesOf, finish, fitLayout, firstFit}
 use Rattle.placing.specs.Post.{Sized}
 use Rattle.packer.specs.declared.Packing.the-variants as packings
 use Rattle.packer.specs.declared.Packing.{Packing}
-use Rattle.packer.specs.Pack.{judgePack, packedRoom, packedAfter, Lays, Packs}
+use Rattle.packer.specs.Pack.{judgePack, packedRoom, packedAfter, Lays, Answered}
 use Rattle.packer.specs.Post.{head, tableOf}
 
 -- zeros put behind a beginning, byte by byte
@@ -305,11 +305,11 @@ module _ (text room : List ℕ) where
   unfolding judgePack
   judged-next h = rw (le-ltb (length room) packRoom h)
 
-  pub pack-short : length room < packRoom → Packs text room (packings.Refused PackRoomShort) room
+  pub pack-short : length room < packRoom → Answered text room (packings.Refused PackRoomShort) room
   pack-short h = record { answered = rw (judged-short h) refl; memory = rw (judged-short h) refl }
 
   module _ (h : packRoom ≤ length room) where
-    pub pack-refused : {g : Ground} → judgePatterns text ≡ Refused g → Packs text room (packings.Refused g) room
+    pub pack-refused : {g : Ground} → judgePatterns text ≡ Refused g → Answered text room (packings.Refused g) room
     pack-refused e = record { answered = rw (judged-next h, e) refl; memory = rw (judged-next h, e) refl }
 
     module _ {cleared : List ℕ} (k : cleared ≡ packedRoom (take 0 room) room) where
@@ -317,7 +317,7 @@ module _ (text room : List ℕ) where
       unfolding packedRoom
       cleared-start = rw k (take-at (replicate packRoom 0) (drop packRoom room) packRoom (length-replicate {A = ℕ} packRoom 0))
 
-      pub pack-laid : judgePatterns text ≡ Fine → {r : Packing} {after : List ℕ} → Lays text cleared r after → Packs text room r after
+      pub pack-laid : judgePatterns text ≡ Fine → {r : Packing} {after : List ℕ} → Lays text cleared r after → Answered text room r after
       unfolding packedRoom
       pack-laid e l =
           let behind : drop packRoom cleared ≡ drop packRoom room = ap (drop packRoom) k ∙ drop-at (replicate packRoom 0) (drop packRoom room) packRoom (length-replicate {A = ℕ} packRoom 0) in

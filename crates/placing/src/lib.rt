@@ -10,7 +10,7 @@ ghost use Rattle.words.specs.Symbols.{symbolsOf};
 ghost use Rattle.lines.specs.Lines.{cut};
 ghost use Rattle.liang.specs.Patterns.{patternOf, patternsOf};
 ghost use Rattle.right.specs.Test.{allFrom};
-ghost use Rattle.fit.specs.Cells.{Fits, putNumber, isFree, serves, smallest, baseFor, inside, putCell, putCells, cellOf, putLink, place, opens, placeLength, placeLengths};
+ghost use Rattle.fit.specs.Cells.{Fits, isFree, serves, smallest, baseFor, inside, putCell, putCells, cellOf, putLink, place, opens, placeLength, placeLengths};
 ghost use Rattle.placing.specs.Post.{marked, placeLine, Sized, Placed};
 
 // Is the cell numbered base + symbol free?
@@ -269,10 +269,11 @@ fn place_length(cells: &mut [u8], taken: &mut [u8], m: usize, text: &[u8]) -> bo
     true
 }
 
-// All paths of a text, by length.
+// All paths of a text, by length. Where they don't fit, what the two rooms hold is left open; their sizes stay.
 pub fn place_all(cells: &mut [u8], taken: &mut [u8], text: &[u8]) -> bool
     requires { ⌜ Sized (now cells) (now taken) ⌝ }
     ensures { λ r. ⌜ Placed (placeLengths 0 16 (patternsOf (now (text .entry))) (Fits (now (cells .entry)) (now (taken .entry)))) r (now (cells .exit)) (now (taken .exit)) ⌝ }
+    ensures left { λ _. ⌜ Sized (now (cells .exit)) (now (taken .exit)) ⌝ }
 {
     let mut m: usize = 0;
     while m < base::PATTERN_LIMIT {

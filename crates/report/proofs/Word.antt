@@ -13,11 +13,13 @@ use Rattle.base.specs.declared.Ground.{Ground}
 use Rattle.words.specs.Words.{judgeWord}
 use Rattle.hyphenation.specs.Sheet.{sheet, written}
 use Rattle.hyphenation.specs.Breaks.{breakSheet}
-use Rattle.hyphenation.specs.Calls.{breaksSheet, breaksLooks, wordAnswer, WordBreaks}
+use Rattle.hyphenation.specs.Calls.{judgeWordAlone, Answered, breaksSheet, breaksLooks, wordAnswer, WordBreaks}
 use Rattle.hyphenation.specs.declared.Answer.{Answer}
 use Rattle.hyphenation.specs.declared.Answer.the-variants as answers
 use Rattle.hyphenation.proofs.Laws.{sheet-length}
 use Rattle.words.proofs.Laws.{word-fits}
+use Rattle.hyphenation.proofs.Order.{word-alone-ordered, computed}
+use Rattle.hyphenation.proofs.Calls.{word-alone-sizes}
 use Rattle.hyphenation.proofs.Theorems.{finding}
 use Rattle.report.specs.Put.{Put}
 use Rattle.report.specs.Report.{question, lineFeed, lineLimit, lastDigit, digits, letterWith, hyphenated, field, listField, refusalLine, Reports, counted, wordsLabel, refusedLabel, probesLabel, sumsLine}
@@ -87,14 +89,20 @@ sums-fit words refused probes at n h =
       length-append (counted probesLabel probes) (lineFeed ∷ []),
     )
 
-module _ (left right : ℕ) (word customer house table marks : List ℕ) {answer : Answer} {after : List ℕ} (b : WordBreaks left right word customer house table marks answer after) where
+module _ (left right : ℕ) (word customer house table marks : List ℕ) {answer : Answer} {after : List ℕ} (promise : WordBreaks left right word customer house table marks answer after) where
+  b : Answered (judgeWordAlone word (length marks)) (breaksSheet left right word customer house table) (breaksLooks word customer house table) marks answer after
+  b = computed (word-alone-ordered word (length marks)) promise
+
   module _ {count looks : ℕ} (e : answer ≡ answers.Found count looks) where
+    alone : judgeWordAlone word (length marks) ≡ Fine
+    alone = finding (judgeWordAlone word (length marks)) (breaksSheet left right word customer house table) (breaksLooks word customer house table) count looks (sym e ∙ b .answered) .judged-fine
+
     fine : judgeWord wordLimit word ≡ Fine
-    fine = finding (judgeWord wordLimit word) (breaksSheet left right word customer house table) (breaksLooks word customer house table) count looks (sym e ∙ b .answered) .judged-fine
+    fine = word-alone-sizes word (length marks) refl alone .0
 
     written-sheet : after ≡ breaksSheet left right word customer house table ++ drop roomSize marks
     unfolding written
-    written-sheet = b .memory ∙ rw fine
+    written-sheet = b .memory ∙ rw alone
 
     sheet-long : length (breaksSheet left right word customer house table) ≡ roomSize
     unfolding breakSheet sheet
@@ -121,7 +129,7 @@ module _ (left right : ℕ) (word customer house table marks : List ℕ) {answer
     pub found-reports : {at end : ℕ} {room filled : List ℕ} → Put (hyphenated after word ++ (lineFeed ∷ [])) at room end filled
         → Reports left right word customer house table marks room at (record { end = end; looks = looks; refused = false }) after filled
     found-reports p =
-        let w : wordAnswer left right word customer house table ≡ answers.Found count looks = sym (b .answered) ∙ e in
+        let w : wordAnswer left right word customer house table (length marks) ≡ answers.Found count looks = sym (b .answered) ∙ e in
         record {
           line = put-as (rw (w, shown)) p;
           looked = rw w;
@@ -132,7 +140,7 @@ module _ (left right : ℕ) (word customer house table marks : List ℕ) {answer
   pub refused-reports : {g : Ground} → answer ≡ answers.Refused g → {at end : ℕ} {room filled : List ℕ} → Put (refusalLine question g) at room end filled
       → Reports left right word customer house table marks room at (record { end = end; looks = 0; refused = true }) after filled
   refused-reports {g = g} e p =
-      let w : wordAnswer left right word customer house table ≡ answers.Refused g = sym (b .answered) ∙ e in
+      let w : wordAnswer left right word customer house table (length marks) ≡ answers.Refused g = sym (b .answered) ∙ e in
       record {
         line = put-as (rw w) p;
         looked = rw w;

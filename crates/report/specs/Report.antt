@@ -4,12 +4,12 @@ use mathlib.Core.Bool.{Bool, true, false, cond}
 use mathlib.Core.List.{List, [], _∷_, _++_}
 use mathlib.Core.Path.{_≡_}
 use lib.Dec.{ltb, eqb}
+use lib.ListN.{length}
 use Rattle.base.specs.Grounds.{told}
 use Rattle.base.specs.declared.Ground.{Ground}
 use Rattle.base.specs.Limits.{wordLimit}
 use Rattle.words.specs.Symbols.{hyphen}
-use Rattle.words.specs.Words.{judgeWord}
-use Rattle.hyphenation.specs.Calls.{roomAfter, breaksSheet, wordAnswer}
+use Rattle.hyphenation.specs.Calls.{judgeWordAlone, roomAfter, breaksSheet, wordAnswer}
 use Rattle.hyphenation.specs.declared.Answer.{Answer}
 use Rattle.hyphenation.specs.declared.Answer.the-variants as answers
 use Rattle.report.specs.Put.{Put}
@@ -94,9 +94,9 @@ isRefused (answers.Refused g) = true
 abbrev pub lineLimit : ℕ
 lineLimit = 2 * wordLimit + 2
 
--- What is put and returned for a word where all else was judged before.
+-- What is put and returned for a word where margins, lists and table were judged before.
 pub record Reports (left right : ℕ) (word customer house table marks room : List ℕ) (at : ℕ) (r : Line) (marksAfter after : List ℕ) : Type 0 where
-  pub line : Put (wordLine (wordAnswer left right word customer house table) (breaksSheet left right word customer house table) word) at room (r .end) after
-  pub looked : r .looks ≡ looksOf (wordAnswer left right word customer house table)
-  pub told : r .refused ≡ isRefused (wordAnswer left right word customer house table)
-  pub memory : marksAfter ≡ roomAfter (judgeWord wordLimit word) (breaksSheet left right word customer house table) marks
+  pub line : Put (wordLine (wordAnswer left right word customer house table (length marks)) (breaksSheet left right word customer house table) word) at room (r .end) after
+  pub looked : r .looks ≡ looksOf (wordAnswer left right word customer house table (length marks))
+  pub told : r .refused ≡ isRefused (wordAnswer left right word customer house table (length marks))
+  pub memory : marksAfter ≡ roomAfter (judgeWordAlone word (length marks)) (breaksSheet left right word customer house table) marks

@@ -1,11 +1,9 @@
 // The lines that the programs write, put into lent memory.
 use base::Ground;
 use hyphenation::Answer;
-ghost use mathlib.Core.Path.{_≡_};
 ghost use mathlib.Core.List.{[], _∷_, _++_};
 ghost use Prim.Native.Nat.{_+_, _≤_};
 ghost use lib.ListN.{length};
-ghost use Rattle.base.specs.Limits.{roomSize};
 ghost use Rattle.report.specs.Put.{Put};
 ghost use Rattle.report.specs.Report.{lineFeed, lineLimit, digits, decimal, letterWith, hyphenated, field, listField, toldLine, refusalLine, counted, sumsLine, Reports};
 
@@ -176,7 +174,7 @@ pub fn put_word<'a>(
     room: &mut [u8],
     at: usize,
 ) -> Line
-    requires { ⌜ (roomSize ≤ length (now marks)) × (at + lineLimit ≤ length (now room)) ⌝ }
+    requires { ⌜ at + lineLimit ≤ length (now room) ⌝ }
     ensures { λ r. ⌜ Reports left right (now (word .entry)) (now (customer .entry)) (now (house .entry)) (now (table .entry)) (now (marks .entry)) (now (room .entry)) at r (now (marks .exit)) (now (room .exit)) ⌝ }
 {
     let answer = hyphenation::hyphenate_word(left, right, word, customer, house, table, marks);

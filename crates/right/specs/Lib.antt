@@ -1,3 +1,4 @@
 pub mod Paths
 pub mod Right
 pub mod Test
+pub mod Reached

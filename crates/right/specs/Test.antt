@@ -4,16 +4,16 @@
 -- and with none of those that the list passes over.
 use Prim.Native.Nat.{ℕ, zero, suc, _+_, _-_}
 use mathlib.Core.Bool.{Bool, true, false, cond, not, _&&_, _||_}
-use mathlib.Core.List.{List, [], _∷_}
+use mathlib.Core.List.{List, [], _∷_, _++_}
 use lib.Dec.{leb, ltb, eqb}
 use lib.ListN.{getD}
 use Rattle.base.specs.Limits.{symbols, patternLimit}
-use Rattle.base.specs.Grounds.{first, refuseIf}
+use Rattle.base.specs.Grounds.{Row, on, first, refuseIf}
 use Rattle.base.specs.declared.Check.{Check}
 use Rattle.base.specs.declared.Ground.the-variants.{NotRight}
-use Rattle.lists.specs.Lists.{judgePatterns}
+use Rattle.lists.specs.Lists.{patternGrounds, judgePatterns}
 use Rattle.liang.specs.Patterns.{Pattern, patternsOf}
-use Rattle.table.specs.Table.{cellKind, entryKind, cellSize, entrySize, cellCount, entryCount, judgeTable, cellsOf, entriesOf, look}
+use Rattle.table.specs.Table.{cellKind, entryKind, cellSize, entrySize, cellCount, entryCount, tableGrounds, judgeTable, cellsOf, entriesOf, look}
 use Rattle.table.specs.declared.Look.{Look}
 use Rattle.table.specs.declared.Look.the-variants.{Hit, Miss}
 use Rattle.walk.specs.Chain.{chain}
@@ -112,9 +112,14 @@ unfoldable pub rightTest : List Pattern → List ℕ → List ℕ → ℕ → �
 rightTest patterns cells entries root c e =
     kindsFrom cellSize cellKind cells 0 c && (kindsFrom entrySize entryKind entries 0 e && patternsRight cells entries root [] patterns)
 
--- "checker 8, 7, 9, 12". "The checker accepts when it answers without a refusal." "The base starts at 0."
+-- Is a table right for the patterns of a text? "The base starts at 0."
+abbrev pub rightFor : List ℕ → List ℕ → Bool
+rightFor text table = rightTest (patternsOf text) (cellsOf table) (entriesOf table) 0 (cellCount table) (entryCount table)
+
+-- "checker 8, 7, 9, 12". "The checker accepts when it answers without a refusal."
+unfoldable pub checkGrounds : List ℕ → List ℕ → List Row
+checkGrounds text table = patternGrounds text ++ (tableGrounds table ++ (on 12 (not (rightFor text table)) ∷ []))
+
+-- The same as it is judged.
 unfoldable pub judgeCheck : List ℕ → List ℕ → Check
-judgeCheck text table =
-    first (judgePatterns text)
-    (first (judgeTable table)
-    (refuseIf (not (rightTest (patternsOf text) (cellsOf table) (entriesOf table) 0 (cellCount table) (entryCount table))) NotRight))
+judgeCheck text table = first (judgePatterns text) (first (judgeTable table) (refuseIf (not (rightFor text table)) NotRight))

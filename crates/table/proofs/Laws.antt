@@ -4,14 +4,14 @@ use mathlib.Core.Bool.{and-false}
 use mathlib.Core.List.{List, []}
 use mathlib.Core.Path.{_≡_, refl, sym, _∙_}
 use native.Mathlib.Omega.{arith}
-use borrow.Author.Tests.{lt-leb, le-leb, eq-eqb, ne-eqb}
+use borrow.Author.Tests.{lt-leb, le-leb, eq-eqb, ne-eqb, lt-ltb, le-ltb}
 use lib.Dec.{eqb}
 use lib.ListN.{length, getD, set, take, drop, length-drop, drop-of-length-le, List·getD-eq-default}
 use lib.Seq.{take-all, take-nil, set-out}
 use Rattle.base.specs.Limits.{cells, entries}
 use Rattle.base.specs.declared.Check.the-variants.{Fine, Refused}
 use Rattle.base.specs.declared.Ground.the-variants.{TableForm}
-use Rattle.table.specs.Table.{numberAt, putNumber, cellCount, entryCount, formed, judgeTable, cellsOf, entriesOf, look, entryAt}
+use Rattle.table.specs.Table.{numberAt, putNumber, cellCount, entryCount, formed, judgeTable, cellsOf, entriesOf, cellsPlace, entriesPlace, look, entryAt}
 use Rattle.table.specs.declared.Look.the-variants.{Hit, Miss}
 use Rattle.table.specs.declared.Entry.the-variants.{Has, Stop}
 
@@ -136,6 +136,29 @@ unfolding entriesOf cellCount
 entries-part t {c} p =
     let d : length (drop (6 + 6 * c) t) ≤ length t - (6 + 6 * c) = omega (arith, length-drop (6 + 6 * c) t) in
     take-all (length t - (6 + 6 * c)) (drop (6 + 6 * c) t) d ∙ rw p
+
+-- where they lie
+module _ (t : List ℕ) (at : ℕ × ℕ) where
+  pub cells-short : length t < 6 → at ≡ cellsPlace t at
+  unfolding cellsPlace
+  cells-short h = rw (lt-ltb (length t) 6 h)
+
+  pub cells-behind : 6 ≤ length t → (at .0, 6 + at .1) ≡ cellsPlace t at
+  unfolding cellsPlace
+  cells-behind h = rw (le-ltb (length t) 6 h)
+
+  pub entries-short : length t < 6 → at ≡ entriesPlace t at
+  unfolding entriesPlace
+  entries-short h = rw (lt-ltb (length t) (6 + 6 * cellCount t) (omega arith))
+
+  module _ {c : ℕ} (p : c ≡ numberAt t 2) where
+    pub entries-cut : length t < 6 + 6 * c → at ≡ entriesPlace t at
+    unfolding entriesPlace cellCount
+    entries-cut l = rw (lt-ltb (length t) (6 + 6 * numberAt t 2) (omega (arith, p)))
+
+    pub entries-behind : 6 + 6 * c ≤ length t → (at .0, (6 + 6 * c) + at .1) ≡ entriesPlace t at
+    unfolding entriesPlace cellCount
+    entries-behind l = rw (le-ltb (length t) (6 + 6 * numberAt t 2) (omega (arith, p)), p)
 
 -- one look
 module _ (t : List ℕ) (n s : ℕ) where

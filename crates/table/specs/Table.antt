@@ -1,11 +1,11 @@
 -- The packed table as document 01 lays it out on bytes.
 use Prim.Native.Nat.{ℕ, _+_, _*_, _-_, _/_, _%_}
 use mathlib.Core.Bool.{Bool, cond, not, _&&_}
-use mathlib.Core.List.{List}
-use lib.Dec.{leb, eqb}
+use mathlib.Core.List.{List, [], _∷_}
+use lib.Dec.{leb, ltb, eqb}
 use lib.ListN.{length, getD, set, take, drop}
 use Rattle.base.specs.Limits.{cells, entries}
-use Rattle.base.specs.Grounds.{refuseIf}
+use Rattle.base.specs.Grounds.{Row, on, refuseIf}
 use Rattle.base.specs.declared.Check.{Check}
 use Rattle.base.specs.declared.Ground.the-variants.{TableForm}
 use Rattle.table.specs.declared.Look.{Look}
@@ -62,6 +62,10 @@ formed table =
     && eqb (length table) (headSize + cellSize * cellCount table + entrySize * entryCount table))))))
 
 -- Ground 9: "table's length or kind 1 record wrong".
+unfoldable pub tableGrounds : List ℕ → List Row
+tableGrounds table = on 9 (not (formed table)) ∷ []
+
+-- The same as it is judged.
 unfoldable pub judgeTable : List ℕ → Check
 judgeTable table = refuseIf (not (formed table)) TableForm
 
@@ -71,6 +75,17 @@ cellsOf table = take (cellSize * cellCount table) (drop headSize table)
 
 unfoldable pub entriesOf : List ℕ → List ℕ
 entriesOf table = drop (headSize + cellSize * cellCount table) table
+
+-- Where these parts lie, told by a block and an offset in it, as the table itself: behind the head, and behind the cells. Where
+-- the table ends before, the part is empty and lies at the table's beginning.
+abbrev pub behind : ℕ → List ℕ → ℕ × ℕ → ℕ × ℕ
+behind n table at = cond (ltb (length table) n) at (at .0, n + at .1)
+
+unfoldable pub cellsPlace : List ℕ → ℕ × ℕ → ℕ × ℕ
+cellsPlace table at = behind headSize table at
+
+unfoldable pub entriesPlace : List ℕ → ℕ × ℕ → ℕ × ℕ
+entriesPlace table at = behind (headSize + cellSize * cellCount table) table at
 
 -- One look at a cell: "It matches if it exists, is of kind 2 and holds this very symbol."
 unfoldable pub look : List ℕ → ℕ → ℕ → Look

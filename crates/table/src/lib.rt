@@ -1,10 +1,13 @@
 // The packed table on bytes: ground 9, the parts of a table, one look at a cell, one entry.
 use base::Check;
 use base::Ground;
+ghost use mathlib.Core.List.{[]};
 ghost use mathlib.Core.Path.{_≡_};
+ghost use denote.Ref.{ptr};
 ghost use Prim.Native.Nat.{_+_, _<_};
 ghost use lib.ListN.{length, getD};
-ghost use Rattle.table.specs.Table.{numberAt, putNumber, cellCount, entryCount, judgeTable, cellsOf, entriesOf, look, entryAt};
+ghost use Rattle.base.specs.Grounds.{Finds, says, firstOf};
+ghost use Rattle.table.specs.Table.{numberAt, putNumber, cellCount, entryCount, tableGrounds, cellsOf, entriesOf, cellsPlace, entriesPlace, look, entryAt};
 
 // What a look at a cell finds.
 pub enum Look {
@@ -28,7 +31,7 @@ fn number_in(bytes: &[u8], at: usize) -> u16
 
 // Ground 9.
 pub fn judge_table(table: &[u8]) -> Check
-    ensures { λ r. ⌜ r ≡ judgeTable (now (table .entry)) ⌝ }
+    ensures { λ r. ⌜ says r ≡ firstOf (Finds []) (tableGrounds (now (table .entry))) ⌝ }
 {
     if table.len() < 6 {
         return Check::Refused(Ground::TableForm);
@@ -105,7 +108,8 @@ pub fn entry_count(table: &[u8]) -> u16
 
 // The bytes of a table's cells, as far as they are there.
 pub fn cells_of(table: &[u8]) -> &[u8]
-    ensures { λ r. ⌜ now r ≡ cellsOf (now (table .entry)) ⌝ }
+    ensures bytes { λ r. ⌜ now r ≡ cellsOf (now (table .entry)) ⌝ }
+    ensures place { λ r. ⌜ ptr r ≡ cellsPlace (now (table .entry)) (ptr (table .entry)) ⌝ }
 {
     if table.len() < 6 {
         return &table[..0];
@@ -119,7 +123,8 @@ pub fn cells_of(table: &[u8]) -> &[u8]
 
 // The bytes of a table's entries, as far as they are there.
 pub fn entries_of(table: &[u8]) -> &[u8]
-    ensures { λ r. ⌜ now r ≡ entriesOf (now (table .entry)) ⌝ }
+    ensures bytes { λ r. ⌜ now r ≡ entriesOf (now (table .entry)) ⌝ }
+    ensures place { λ r. ⌜ ptr r ≡ entriesPlace (now (table .entry)) (ptr (table .entry)) ⌝ }
 {
     if table.len() < 6 {
         return &table[..0];

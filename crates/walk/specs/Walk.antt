@@ -1,4 +1,4 @@
--- The walks from all places of a row: what they set, and how many cells they look at.
+-- The walks from all places of a row: what they set, how many cells they look at, and how many symbols they match.
 use Prim.Native.Nat.{ℕ, zero, suc, _+_}
 use mathlib.Core.Bool.{cond}
 use mathlib.Core.List.{List, [], _∷_, _++_}
@@ -37,6 +37,18 @@ looksFrom cells zero base row = 0
 looksFrom cells (suc left) base [] = 0
 looksFrom cells (suc left) base (s ∷ row) = lookStep (λ link. looksFrom cells left link row) (look cells (base + s) s)
 
+-- How many symbols a walk matches: "the walk from there matches m symbols". Its looks without the mismatch that may end it.
+unfoldable pub matchStep : (ℕ → ℕ) → Look → ℕ
+matchStep go Miss = 0
+matchStep go (Hit link output) =
+    let rest = go link in
+    1 + cond (eqb link 0) 0 rest
+
+unfoldable pub matchesFrom : List ℕ → ℕ → ℕ → List ℕ → ℕ
+matchesFrom cells zero base row = 0
+matchesFrom cells (suc left) base [] = 0
+matchesFrom cells (suc left) base (s ∷ row) = matchStep (λ link. matchesFrom cells left link row) (look cells (base + s) s)
+
 -- The walks from every place of a row; the first one given has `place` symbols before it. The base starts at the root.
 unfoldable pub settings : List ℕ → List ℕ → ℕ → ℕ → List ℕ → List Setting
 settings cells entries root place [] = []
@@ -47,3 +59,8 @@ settings cells entries root place (s ∷ row) =
 unfoldable pub looks : List ℕ → ℕ → List ℕ → ℕ
 looks cells root [] = 0
 looks cells root (s ∷ row) = looksFrom cells patternLimit root (s ∷ row) + looks cells root row
+
+-- What a number for each of the first n places comes to in all: f 0 + .. + f (n - 1).
+unfoldable pub sumTo : ℕ → (ℕ → ℕ) → ℕ
+sumTo zero f = 0
+sumTo (suc n) f = f 0 + sumTo n (λ place. f (suc place))

@@ -3,8 +3,10 @@ use base::Check;
 use base::Ground;
 ghost use mathlib.Core.Path.{_≡_};
 ghost use mathlib.Core.Bool.{true};
+ghost use mathlib.Core.List.{[]};
+ghost use Rattle.base.specs.Grounds.{Finds, says, firstOf};
 ghost use Rattle.words.specs.Symbols.{small, capital, letter, lower, digit, symbolOf};
-ghost use Rattle.words.specs.Words.{judgeWord};
+ghost use Rattle.words.specs.Words.{wordGrounds};
 
 pub fn is_small(b: u8) -> bool
     ensures { λ r. ⌜ r ≡ small b ⌝ }
@@ -78,7 +80,7 @@ pub fn letter_symbol(b: u8) -> u8
 
 // Grounds 2, 4 and 3 of a word of at most limit bytes.
 pub fn judge_word(word: &[u8], limit: usize) -> Check
-    ensures { λ r. ⌜ r ≡ judgeWord limit (now (word .entry)) ⌝ }
+    ensures { λ r. ⌜ says r ≡ firstOf (Finds []) (wordGrounds limit (now (word .entry))) ⌝ }
 {
     if word.len() == 0 {
         return Check::Refused(Ground::WordEmpty);

@@ -1,6 +1,7 @@
 use Rattle.capi.specs.Bits.{answerBits}
 use mathlib.Core.Path.{_∙_, ap}
 use borrow.Author.Needs.{needs}
+use Rattle.hyphenation.proofs.Order.{hyphenate-ordered, computed}
 use Rattle.capi.proofs.tteolmigu_hyphenate.Statement.{statement}
 use Rattle.capi.proofs.tteolmigu_hyphenate.Tie as tie
 
@@ -14,7 +15,7 @@ same-length : tie.Need-same-length
 same-length c = search needs
 
 returns : tie.Need-returns
-returns c = (c .answer-bits .ensures ∙ ap answerBits (c .before .before .before .hyphenate .ensures .answered), c .before .before .before .hyphenate .ensures .memory)
+returns c = (c .answer-bits .ensures ∙ ap answerBits (computed (hyphenate-ordered _ _ _ _ _ _ _) (c .before .before .before .hyphenate .ensures) .answered), computed (hyphenate-ordered _ _ _ _ _ _ _) (c .before .before .before .hyphenate .ensures) .memory)
 
 pub tteolmigu-hyphenate-spec : {M : Type 1} → statement M
 tteolmigu-hyphenate-spec =

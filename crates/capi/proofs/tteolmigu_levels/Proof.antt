@@ -1,6 +1,7 @@
 use Rattle.capi.specs.Bits.{answerBits}
 use mathlib.Core.Path.{_∙_, ap}
 use borrow.Author.Needs.{needs}
+use Rattle.hyphenation.proofs.Order.{levels-ordered, computed}
 use Rattle.capi.proofs.tteolmigu_levels.Statement.{statement}
 use Rattle.capi.proofs.tteolmigu_levels.Tie as tie
 
@@ -14,7 +15,7 @@ same-length : tie.Need-same-length
 same-length c = search needs
 
 returns : tie.Need-returns
-returns c = (c .answer-bits .ensures ∙ ap answerBits (c .before .before .before .levels .ensures .answered), c .before .before .before .levels .ensures .memory)
+returns c = (c .answer-bits .ensures ∙ ap answerBits (computed (levels-ordered _ _ _) (c .before .before .before .levels .ensures) .answered), computed (levels-ordered _ _ _) (c .before .before .before .levels .ensures) .memory)
 
 pub tteolmigu-levels-spec : {M : Type 1} → statement M
 tteolmigu-levels-spec =

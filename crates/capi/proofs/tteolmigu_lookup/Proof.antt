@@ -1,6 +1,7 @@
 use Rattle.capi.specs.Bits.{locatedBits}
 use mathlib.Core.Path.{_∙_, ap}
 use borrow.Author.Needs.{needs}
+use Rattle.lookup.proofs.Order.{located-by}
 use Rattle.capi.proofs.tteolmigu_lookup.Statement.{statement}
 use Rattle.capi.proofs.tteolmigu_lookup.Tie as tie
 
@@ -11,7 +12,7 @@ located-bits-requires : tie.Need-located-bits-requires
 located-bits-requires c κs = search needs
 
 returns : tie.Need-returns
-returns c = c .located-bits .ensures ∙ ap locatedBits (c .before .locate-line .ensures)
+returns c = c .located-bits .ensures ∙ ap locatedBits (located-by _ _ _ (c .before .locate-line .ensures))
 
 pub tteolmigu-lookup-spec : {M : Type 1} → statement M
 tteolmigu-lookup-spec = tie.close (tie.spec locate-line-requires located-bits-requires returns)

@@ -1,7 +1,10 @@
 use borrow.Author.Needs.{needs}
-use mathlib.Core.Path.{refl, sym, _∙_}
+use mathlib.Core.Path.{sym, _∙_}
 use borrow.Author.Tests.{not-true, not-false}
-use Rattle.base.proofs.Grounds.{pass, stop}
+use Rattle.base.proofs.Grounds.{pass, stop, said-by, judged-by}
+use Rattle.lists.proofs.Order.{patterns-ordered}
+use Rattle.table.proofs.Order.{table-ordered}
+use Rattle.right.proofs.Order.{check-ordered}
 use Rattle.lists.proofs.Theorems.{patterns-good}
 use Rattle.right.specs.Test.{judgeCheck}
 use Rattle.checker.proofs.Laws.{refused-not-right, accepted-right}
@@ -16,7 +19,7 @@ enum-known-list c = search needs
 
 returns : tie.Need-returns
 unfolding judgeCheck
-returns c = sym (stop _ (c .before .before .before .judge-patterns .ensures) (c .before .list .given .1))
+returns c = said-by (check-ordered _ _) (sym (stop _ (judged-by (patterns-ordered _) (c .before .before .before .judge-patterns .ensures)) (c .before .list .given .1)))
 
 enum-told : tie.Need-enum-told
 enum-told c = search needs
@@ -29,21 +32,21 @@ enum-known-form c = search needs
 
 returns-2 : tie.Need-returns-2
 unfolding judgeCheck
-returns-2 c = sym (pass _ (c .before .before .before .before .before .before .judge-patterns .ensures) (c .before .before .before .before .enum-told .given .1) ∙ stop _ (c .before .before .before .judge-table .ensures) (c .before .form .given .1))
+returns-2 c = said-by (check-ordered _ _) (sym (pass _ (judged-by (patterns-ordered _) (c .before .before .before .before .before .before .judge-patterns .ensures)) (c .before .before .before .before .enum-told .given .1) ∙ stop _ (judged-by (table-ordered _) (c .before .before .before .judge-table .ensures)) (c .before .form .given .1)))
 
 enum-told-2 : tie.Need-enum-told-2
 enum-told-2 c = search needs
 
 is-right-requires : tie.Need-is-right-requires
-is-right-requires c κs = patterns-good _ (sym (c .before .before .before .before .before .judge-patterns .ensures) ∙ c .before .before .before .enum-told .given .1)
+is-right-requires c κs = patterns-good _ (sym (judged-by (patterns-ordered _) (c .before .before .before .before .before .judge-patterns .ensures)) ∙ c .before .before .before .enum-told .given .1)
 
 returns-3 : tie.Need-returns-3
 unfolding judgeCheck
-returns-3 c = sym (pass _ (c .before .before .before .before .before .before .before .judge-patterns .ensures) (c .before .before .before .before .before .enum-told .given .1) ∙ pass _ (c .before .before .before .before .judge-table .ensures) (c .before .before .enum-told2 .given .1) ∙ refused-not-right _ _ (c .before .is-right .ensures) (not-true _ (c .if1 .taken)))
+returns-3 c = said-by (check-ordered _ _) (sym (pass _ (judged-by (patterns-ordered _) (c .before .before .before .before .before .before .before .judge-patterns .ensures)) (c .before .before .before .before .before .enum-told .given .1) ∙ pass _ (judged-by (table-ordered _) (c .before .before .before .before .judge-table .ensures)) (c .before .before .enum-told2 .given .1) ∙ refused-not-right _ _ (c .before .is-right .ensures) (not-true _ (c .if1 .taken))))
 
 returns-4 : tie.Need-returns-4
 unfolding judgeCheck
-returns-4 c = sym (pass _ (c .before .before .before .before .before .before .before .judge-patterns .ensures) (c .before .before .before .before .before .enum-told .given .1) ∙ pass _ (c .before .before .before .before .judge-table .ensures) (c .before .before .enum-told2 .given .1) ∙ accepted-right _ _ (c .before .is-right .ensures) (not-false _ (c .if1 .left)))
+returns-4 c = said-by (check-ordered _ _) (sym (pass _ (judged-by (patterns-ordered _) (c .before .before .before .before .before .before .before .judge-patterns .ensures)) (c .before .before .before .before .before .enum-told .given .1) ∙ pass _ (judged-by (table-ordered _) (c .before .before .before .before .judge-table .ensures)) (c .before .before .enum-told2 .given .1) ∙ accepted-right _ _ (c .before .is-right .ensures) (not-false _ (c .if1 .left))))
 
 pub check-spec : {M : Type 1} → statement M
 check-spec =

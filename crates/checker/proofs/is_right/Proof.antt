@@ -18,7 +18,7 @@ are-kinds-requires : tie.Need-are-kinds-requires
 are-kinds-requires c κs = search needs
 
 returns : tie.Need-returns
-returns c = right-cells _ _ _ (c .before .before .before .before .cells-of .ensures) (c .before .before .before .entries-of .ensures) (c .before .before .cell-count .ensures) refl (c .before .are-kinds .ensures) (not-true _ (c .if1 .taken))
+returns c = right-cells _ _ _ (c .before .before .before .before .cells-of .ensures .0) (c .before .before .before .entries-of .ensures .0) (c .before .before .cell-count .ensures) refl (c .before .are-kinds .ensures) (not-true _ (c .if1 .taken))
 
 entry-count-requires : tie.Need-entry-count-requires
 entry-count-requires c κs = search needs
@@ -27,13 +27,13 @@ are-kinds-requires-2 : tie.Need-are-kinds-requires-2
 are-kinds-requires-2 c κs = search needs
 
 returns-2 : tie.Need-returns-2
-returns-2 c = right-entries _ _ _ (c .before .before .before .before .before .before .before .cells-of .ensures) (c .before .before .before .before .before .before .entries-of .ensures) (c .before .before .before .before .before .cell-count .ensures) (c .before .before .entry-count .ensures) (c .before .before .before .before .are-kinds .ensures) (not-false _ (c .before .before .before .if1 .left)) (c .before .are-kinds2 .ensures) (not-true _ (c .if2 .taken))
+returns-2 c = right-entries _ _ _ (c .before .before .before .before .before .before .before .cells-of .ensures .0) (c .before .before .before .before .before .before .entries-of .ensures .0) (c .before .before .before .before .before .cell-count .ensures) (c .before .before .entry-count .ensures) (c .before .before .before .before .are-kinds .ensures) (not-false _ (c .before .before .before .if1 .left)) (c .before .are-kinds2 .ensures) (not-true _ (c .if2 .taken))
 
 are-lines-right-requires : tie.Need-are-lines-right-requires
 are-lines-right-requires c κs = search needs
 
 returns-3 : tie.Need-returns-3
-returns-3 c = right-lines _ _ _ (c .before .before .before .before .before .before .before .before .cells-of .ensures) (c .before .before .before .before .before .before .before .entries-of .ensures) (c .before .before .before .before .before .before .cell-count .ensures) (c .before .before .before .entry-count .ensures) (c .before .before .before .before .before .are-kinds .ensures) (not-false _ (c .before .before .before .before .if1 .left)) (c .before .before .are-kinds2 .ensures) (not-false _ (c .before .if2 .left)) (c .are-lines-right .ensures)
+returns-3 c = right-lines _ _ _ (c .before .before .before .before .before .before .before .before .cells-of .ensures .0) (c .before .before .before .before .before .before .before .entries-of .ensures .0) (c .before .before .before .before .before .before .cell-count .ensures) (c .before .before .before .entry-count .ensures) (c .before .before .before .before .before .are-kinds .ensures) (not-false _ (c .before .before .before .before .if1 .left)) (c .before .before .are-kinds2 .ensures) (not-false _ (c .before .if2 .left)) (c .are-lines-right .ensures)
 
 pub is-right-spec : {M : Type 1} → statement M
 is-right-spec =

@@ -1,7 +1,6 @@
 use borrow.Author.Needs.{needs}
 use Prim.Native.Nat.{suc, _≤_, _-_}
-use mathlib.Core.Path.{_≡_, refl, sym, _∙_, ap, subst}
-use native.Mathlib.Omega.{arith}
+use mathlib.Core.Path.{_≡_, sym, _∙_, ap, subst}
 use lib.ListN.{length}
 use Rattle.liang.specs.Patterns.{levelsFrom}
 use Rattle.fit.specs.Entries as fit
@@ -41,7 +40,7 @@ same-length : tie.Need-same-length Inv-loop μ-loop
 same-length c = c .before .before .before .before .enter .kept .0 ∙ c .before .before .before .before .before .before .before .before .before .loop .inv .3 ∙ sym (c .before .before .before .before .before .before .before .before .before .loop .inv .4)
 
 returns : tie.Need-returns Inv-loop μ-loop
-returns c = (c .before .before .before .before .before .before .before .before .before .loop .inv .5 ∙ levels-enter _ _ _ _ (c .before .before .before .before .before .before .before .before .loop-test .taken) (c .before .before .before .before .before .before .before .level-at .ensures) (c .before .before .before .before .before .before .if1 .taken) (c .before .before .before .before .enter .ensures .0 ∙ ap (asEntries _) (c .enum-told .given .1)) ∙ levels-over _ _ _ _, search needs)
+returns c = (c .before .before .before .before .before .before .before .before .before .loop .inv .5 ∙ levels-enter _ _ _ _ (c .before .before .before .before .before .before .before .before .loop-test .taken) (c .before .before .before .before .before .before .before .level-at .ensures) (c .before .before .before .before .before .before .if1 .taken) (c .before .before .before .before .enter .ensures .0 ∙ ap (asEntries _) (c .enum-told .given .1)) ∙ levels-over _ _ _ _, (search needs, c .before .before .before .before .enter .kept .0 ∙ c .before .before .before .before .before .before .before .before .before .loop .inv .3))
 
 loop-less : tie.Need-loop-less Inv-loop μ-loop
 loop-less c = search needs
@@ -59,7 +58,7 @@ same-length-2 : tie.Need-same-length-2 Inv-loop μ-loop
 same-length-2 c = c .before .loop .inv .3 ∙ sym (c .before .loop .inv .4)
 
 returns-2 : tie.Need-returns-2 Inv-loop μ-loop
-returns-2 c = (c .before .loop .inv .5 ∙ levels-end _ _ _ _ (c .loop-test .left), search needs)
+returns-2 c = (c .before .loop .inv .5 ∙ levels-end _ _ _ _ (c .loop-test .left), (search needs, c .before .loop .inv .3))
 
 pub enter-levels-spec : {M : Type 1} → statement M
 enter-levels-spec =

@@ -19,7 +19,7 @@ same-length : tie.Need-same-length
 same-length c = search needs
 
 returns : tie.Need-returns
-returns c = breaks-found _ _ _ _ _ _ _ (c .before .before .before .before .before .before .before .cells-of .ensures) (c .before .before .before .before .before .before .entries-of .ensures) (c .before .before .before .before .breaks-judged .ensures) (c .count-marks .ensures)
+returns c = breaks-found _ _ _ _ _ _ _ (c .before .before .before .before .before .before .before .cells-of .ensures .0) (c .before .before .before .before .before .before .entries-of .ensures .0) (c .before .before .before .before .breaks-judged .ensures) (c .count-marks .ensures)
 
 pub find-breaks-spec : {M : Type 1} → statement M
 find-breaks-spec =

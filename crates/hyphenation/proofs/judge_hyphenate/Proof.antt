@@ -1,7 +1,11 @@
 use borrow.Author.Needs.{needs}
 use mathlib.Core.Path.{sym, _∙_}
-use Rattle.base.proofs.Grounds.{pass, stop}
+use Rattle.base.proofs.Grounds.{pass, stop, said-by, judged-by}
 use Rattle.hyphenation.specs.Calls.{judgeHyphenate}
+use Rattle.words.proofs.Order.{word-ordered}
+use Rattle.lists.proofs.Order.{lists-ordered}
+use Rattle.table.proofs.Order.{table-ordered}
+use Rattle.hyphenation.proofs.Order.{margins-ordered, room-ordered, hyphenate-ordered}
 use Rattle.hyphenation.proofs.judge_hyphenate.Statement.{statement}
 use Rattle.hyphenation.proofs.judge_hyphenate.Tie as tie
 
@@ -13,7 +17,7 @@ enum-known-margins c = search needs
 
 returns : tie.Need-returns
 unfolding judgeHyphenate
-returns c = sym (stop _ (c .before .before .before .judge-margins .ensures) (c .before .margins .given .1))
+returns c = said-by (hyphenate-ordered _ _ _ _ _ _ _) (sym (stop _ (judged-by (margins-ordered _ _) (c .before .before .before .judge-margins .ensures)) (c .before .margins .given .1)))
 
 enum-told : tie.Need-enum-told
 enum-told c = search needs
@@ -26,7 +30,7 @@ enum-known-room c = search needs
 
 returns-2 : tie.Need-returns-2
 unfolding judgeHyphenate
-returns-2 c = sym (pass _ (c .before .before .before .before .before .before .judge-margins .ensures) (c .before .before .before .before .enum-told .given .1) ∙ stop _ (c .before .before .before .judge-room .ensures) (c .before .room .given .1))
+returns-2 c = said-by (hyphenate-ordered _ _ _ _ _ _ _) (sym (pass _ (judged-by (margins-ordered _ _) (c .before .before .before .before .before .before .judge-margins .ensures)) (c .before .before .before .before .enum-told .given .1) ∙ stop _ (judged-by (room-ordered _) (c .before .before .before .judge-room .ensures)) (c .before .room .given .1)))
 
 enum-told-2 : tie.Need-enum-told-2
 enum-told-2 c = search needs
@@ -39,7 +43,7 @@ enum-known-own c = search needs
 
 returns-3 : tie.Need-returns-3
 unfolding judgeHyphenate
-returns-3 c = sym (pass _ (c .before .before .before .before .before .before .before .before .before .judge-margins .ensures) (c .before .before .before .before .before .before .before .enum-told .given .1) ∙ pass _ (c .before .before .before .before .before .before .judge-room .ensures) (c .before .before .before .before .enum-told2 .given .1) ∙ stop _ (c .before .before .before .judge-word .ensures) (c .before .own .given .1))
+returns-3 c = said-by (hyphenate-ordered _ _ _ _ _ _ _) (sym (pass _ (judged-by (margins-ordered _ _) (c .before .before .before .before .before .before .before .before .before .judge-margins .ensures)) (c .before .before .before .before .before .before .before .enum-told .given .1) ∙ pass _ (judged-by (room-ordered _) (c .before .before .before .before .before .before .judge-room .ensures)) (c .before .before .before .before .enum-told2 .given .1) ∙ stop _ (judged-by (word-ordered _ _) (c .before .before .before .judge-word .ensures)) (c .before .own .given .1)))
 
 enum-told-3 : tie.Need-enum-told-3
 enum-told-3 c = search needs
@@ -52,7 +56,7 @@ enum-known-lists c = search needs
 
 returns-4 : tie.Need-returns-4
 unfolding judgeHyphenate
-returns-4 c = sym (pass _ (c .before .before .before .before .before .before .before .before .before .before .before .before .judge-margins .ensures) (c .before .before .before .before .before .before .before .before .before .before .enum-told .given .1) ∙ pass _ (c .before .before .before .before .before .before .before .before .before .judge-room .ensures) (c .before .before .before .before .before .before .before .enum-told2 .given .1) ∙ pass _ (c .before .before .before .before .before .before .judge-word .ensures) (c .before .before .before .before .enum-told3 .given .1) ∙ stop _ (c .before .before .before .judge-lists .ensures) (c .before .lists .given .1))
+returns-4 c = said-by (hyphenate-ordered _ _ _ _ _ _ _) (sym (pass _ (judged-by (margins-ordered _ _) (c .before .before .before .before .before .before .before .before .before .before .before .before .judge-margins .ensures)) (c .before .before .before .before .before .before .before .before .before .before .enum-told .given .1) ∙ pass _ (judged-by (room-ordered _) (c .before .before .before .before .before .before .before .before .before .judge-room .ensures)) (c .before .before .before .before .before .before .before .enum-told2 .given .1) ∙ pass _ (judged-by (word-ordered _ _) (c .before .before .before .before .before .before .judge-word .ensures)) (c .before .before .before .before .enum-told3 .given .1) ∙ stop _ (judged-by (lists-ordered _ _) (c .before .before .before .judge-lists .ensures)) (c .before .lists .given .1)))
 
 enum-told-4 : tie.Need-enum-told-4
 enum-told-4 c = search needs
@@ -62,7 +66,7 @@ judge-table-requires c κs = search needs
 
 returns-5 : tie.Need-returns-5
 unfolding judgeHyphenate
-returns-5 c = c .judge-table .ensures ∙ sym (pass _ (c .before .before .before .before .before .before .before .before .before .before .before .before .judge-margins .ensures) (c .before .before .before .before .before .before .before .before .before .before .enum-told .given .1) ∙ pass _ (c .before .before .before .before .before .before .before .before .before .judge-room .ensures) (c .before .before .before .before .before .before .before .enum-told2 .given .1) ∙ pass _ (c .before .before .before .before .before .before .judge-word .ensures) (c .before .before .before .before .enum-told3 .given .1) ∙ pass _ (c .before .before .before .judge-lists .ensures) (c .before .enum-told4 .given .1))
+returns-5 c = said-by (hyphenate-ordered _ _ _ _ _ _ _) (judged-by (table-ordered _) (c .judge-table .ensures) ∙ sym (pass _ (judged-by (margins-ordered _ _) (c .before .before .before .before .before .before .before .before .before .before .before .before .judge-margins .ensures)) (c .before .before .before .before .before .before .before .before .before .before .enum-told .given .1) ∙ pass _ (judged-by (room-ordered _) (c .before .before .before .before .before .before .before .before .before .judge-room .ensures)) (c .before .before .before .before .before .before .before .enum-told2 .given .1) ∙ pass _ (judged-by (word-ordered _ _) (c .before .before .before .before .before .before .judge-word .ensures)) (c .before .before .before .before .enum-told3 .given .1) ∙ pass _ (judged-by (lists-ordered _ _) (c .before .before .before .judge-lists .ensures)) (c .before .enum-told4 .given .1)))
 
 pub judge-hyphenate-spec : {M : Type 1} → statement M
 judge-hyphenate-spec =

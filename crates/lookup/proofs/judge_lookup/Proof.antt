@@ -1,5 +1,9 @@
 use borrow.Author.Needs.{needs}
 use mathlib.Core.Path.{_∙_}
+use Rattle.base.proofs.Grounds.{said-by, judged-by}
+use Rattle.words.proofs.Order.{word-ordered}
+use Rattle.lists.proofs.Order.{lists-ordered}
+use Rattle.lookup.proofs.Order.{lookup-ordered}
 use Rattle.lookup.proofs.Laws.{lookup-word, lookup-lists}
 use Rattle.lookup.proofs.judge_lookup.Statement.{statement}
 use Rattle.lookup.proofs.judge_lookup.Tie as tie
@@ -11,7 +15,7 @@ enum-known-own : tie.Need-enum-known-own
 enum-known-own c = search needs
 
 returns : tie.Need-returns
-returns c = lookup-word _ _ _ (c .before .before .before .judge-word .ensures) (c .before .own .given .1)
+returns c = said-by (lookup-ordered _ _ _) (lookup-word _ _ _ (judged-by (word-ordered _ _) (c .before .before .before .judge-word .ensures)) (c .before .own .given .1))
 
 enum-told : tie.Need-enum-told
 enum-told c = search needs
@@ -20,7 +24,7 @@ judge-lists-requires : tie.Need-judge-lists-requires
 judge-lists-requires c κs = search needs
 
 returns-2 : tie.Need-returns-2
-returns-2 c = c .judge-lists .ensures ∙ lookup-lists _ _ _ (c .before .before .before .judge-word .ensures) (c .before .enum-told .given .1)
+returns-2 c = said-by (lookup-ordered _ _ _) (judged-by (lists-ordered _ _) (c .judge-lists .ensures) ∙ lookup-lists _ _ _ (judged-by (word-ordered _ _) (c .before .before .before .judge-word .ensures)) (c .before .enum-told .given .1))
 
 pub judge-lookup-spec : {M : Type 1} → statement M
 judge-lookup-spec =

@@ -1,7 +1,7 @@
 use borrow.Author.Needs.{needs}
 use mathlib.Core.Path.{sym, _∙_, ap}
-use native.Mathlib.Omega.{arith}
 use Rattle.lookup.specs.Lookup.{lineOf, placeOf}
+use Rattle.lookup.proofs.Order.{located-by}
 use Rattle.lookup.proofs.Laws.{located-customer, located-house}
 use Rattle.lookup.proofs.lookup.Statement.{statement}
 use Rattle.lookup.proofs.lookup.Tie as tie
@@ -13,25 +13,25 @@ enum-known-at : tie.Need-enum-known-at
 enum-known-at c = search needs
 
 sub-result : tie.Need-sub-result
-sub-result c = located-customer _ _ _ (sym (c .before .before .before .locate-line .ensures) ∙ c .before .at .given .1) .starts
+sub-result c = located-customer _ _ _ (sym (located-by _ _ _ (c .before .before .before .locate-line .ensures)) ∙ c .before .at .given .1) .starts
 
 part-result-start : tie.Need-part-result-start
-part-result-start c = located-customer _ _ _ (sym (c .before .before .before .locate-line .ensures) ∙ c .before .at .given .1) .starts
+part-result-start c = located-customer _ _ _ (sym (located-by _ _ _ (c .before .before .before .locate-line .ensures)) ∙ c .before .at .given .1) .starts
 
 part-result-end : tie.Need-part-result-end
-part-result-end c = located-customer _ _ _ (sym (c .before .before .before .locate-line .ensures) ∙ c .before .at .given .1) .ends
+part-result-end c = located-customer _ _ _ (sym (located-by _ _ _ (c .before .before .before .locate-line .ensures)) ∙ c .before .at .given .1) .ends
 
 enum-known-at-2 : tie.Need-enum-known-at-2
 enum-known-at-2 c = search needs
 
 sub-result-2 : tie.Need-sub-result-2
-sub-result-2 c = located-house _ _ _ (sym (c .before .before .before .locate-line .ensures) ∙ c .before .at2 .given .1) .starts
+sub-result-2 c = located-house _ _ _ (sym (located-by _ _ _ (c .before .before .before .locate-line .ensures)) ∙ c .before .at2 .given .1) .starts
 
 part-result-start-2 : tie.Need-part-result-start-2
-part-result-start-2 c = located-house _ _ _ (sym (c .before .before .before .locate-line .ensures) ∙ c .before .at2 .given .1) .starts
+part-result-start-2 c = located-house _ _ _ (sym (located-by _ _ _ (c .before .before .before .locate-line .ensures)) ∙ c .before .at2 .given .1) .starts
 
 part-result-end-2 : tie.Need-part-result-end-2
-part-result-end-2 c = located-house _ _ _ (sym (c .before .before .before .locate-line .ensures) ∙ c .before .at2 .given .1) .ends
+part-result-end-2 c = located-house _ _ _ (sym (located-by _ _ _ (c .before .before .before .locate-line .ensures)) ∙ c .before .at2 .given .1) .ends
 
 enum-told : tie.Need-enum-told
 enum-told c = search needs
@@ -40,13 +40,13 @@ slice-aggregate-result : tie.Need-slice-aggregate-result
 slice-aggregate-result c = search needs
 
 returns : tie.Need-returns
-returns c = (sym (ap (lineOf _ _) (sym (c .before .before .before .before .locate-line .ensures) ∙ c .before .before .at .given .1)), sym (ap (placeOf _ _) (sym (c .before .before .before .before .locate-line .ensures) ∙ c .before .before .at .given .1)))
+returns c = (sym (ap (lineOf _ _) (sym (located-by _ _ _ (c .before .before .before .before .locate-line .ensures)) ∙ c .before .before .at .given .1)), sym (ap (placeOf _ _) (sym (located-by _ _ _ (c .before .before .before .before .locate-line .ensures)) ∙ c .before .before .at .given .1)))
 
 returns-2 : tie.Need-returns-2
-returns-2 c = (sym (ap (lineOf _ _) (sym (c .before .before .before .before .locate-line .ensures) ∙ c .before .before .at2 .given .1)), sym (ap (placeOf _ _) (sym (c .before .before .before .before .locate-line .ensures) ∙ c .before .before .at2 .given .1)))
+returns-2 c = (sym (ap (lineOf _ _) (sym (located-by _ _ _ (c .before .before .before .before .locate-line .ensures)) ∙ c .before .before .at2 .given .1)), sym (ap (placeOf _ _) (sym (located-by _ _ _ (c .before .before .before .before .locate-line .ensures)) ∙ c .before .before .at2 .given .1)))
 
 returns-3 : tie.Need-returns-3
-returns-3 c = (sym (ap (lineOf _ _) (sym (c .before .before .before .locate-line .ensures) ∙ c .before .enum-told .given .1)), sym (ap (placeOf _ _) (sym (c .before .before .before .locate-line .ensures) ∙ c .before .enum-told .given .1)))
+returns-3 c = (sym (ap (lineOf _ _) (sym (located-by _ _ _ (c .before .before .before .locate-line .ensures)) ∙ c .before .enum-told .given .1)), sym (ap (placeOf _ _) (sym (located-by _ _ _ (c .before .before .before .locate-line .ensures)) ∙ c .before .enum-told .given .1)))
 
 pub lookup-spec : {M : Type 1} → statement M
 lookup-spec =

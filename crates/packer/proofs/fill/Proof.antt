@@ -1,6 +1,6 @@
 use borrow.Author.Needs.{needs}
-use Prim.Native.Nat.{_≤_, _*_}
-use mathlib.Core.Path.{_≡_, refl, sym, _∙_, ap, subst}
+use Prim.Native.Nat.{_≤_}
+use mathlib.Core.Path.{refl, _∙_, ap, subst}
 use native.Mathlib.Omega.{arith}
 use borrow.Author.Tests.{not-true, not-false}
 use Rattle.liang.specs.Patterns.{patternsOf}
@@ -19,7 +19,7 @@ same-length : tie.Need-same-length
 same-length c = search needs
 
 returns : tie.Need-returns
-returns c = (fit-full (patternsOf (c .before .before .before .before .before .before .before .before .before .before .args .text .now)) (c .before .before .before .before .before .before .before .before .before .before .pre .0) (c .before .before .before .before .before .before .before .before .before .before .pre .1) refl (c .before .before .before .before .place-all .ensures .full (not-true _ (c .if1 .taken))), search needs)
+returns c = (fit-full (patternsOf (c .before .before .before .before .before .before .before .before .before .before .args .text .now)) (c .before .before .before .before .before .before .before .before .before .before .pre .0) (c .before .before .before .before .before .before .before .before .before .before .pre .1) refl (c .before .before .before .before .place-all .ensures .0 .full (not-true _ (c .if1 .taken))), search needs)
 
 used-cells-requires : tie.Need-used-cells-requires
 used-cells-requires c κs = size-kept 49152 (c .before .before .before .before .before .before .before .before .before .before .before .pre .0) (c .before .before .before .before .before .place-all .kept .0)
@@ -40,7 +40,7 @@ same-length-3 : tie.Need-same-length-3
 same-length-3 c = search needs
 
 returns-2 : tie.Need-returns-2
-returns-2 c = (fit-over (patternsOf (c .before .before .before .before .before .before .before .before .before .before .before .before .before .before .before .before .before .before .before .before .before .args .text .now)) (c .before .before .before .before .before .before .before .before .before .before .before .before .before .before .before .before .before .before .before .before .before .pre .0) (c .before .before .before .before .before .before .before .before .before .before .before .before .before .before .before .before .before .before .before .before .before .pre .1) refl (c .before .before .before .before .before .before .before .before .before .before .before .before .before .before .before .place-all .ensures .fits (not-false _ (c .before .before .before .before .before .before .before .before .before .before .before .if1 .left))) (c .before .before .before .before .before .before .before .before .before .used-cells .ensures .0) (c .before .before .before .before .before .before .put-outputs .ensures .0 ∙ ap (asOutputs _ _) (c .enum-told .given .1)), search needs)
+returns-2 c = (fit-over (patternsOf (c .before .before .before .before .before .before .before .before .before .before .before .before .before .before .before .before .before .before .before .before .before .args .text .now)) (c .before .before .before .before .before .before .before .before .before .before .before .before .before .before .before .before .before .before .before .before .before .pre .0) (c .before .before .before .before .before .before .before .before .before .before .before .before .before .before .before .before .before .before .before .before .before .pre .1) refl (c .before .before .before .before .before .before .before .before .before .before .before .before .before .before .before .place-all .ensures .0 .fits (not-false _ (c .before .before .before .before .before .before .before .before .before .before .before .if1 .left))) (c .before .before .before .before .before .before .before .before .before .used-cells .ensures .0) (c .before .before .before .before .before .before .put-outputs .ensures .0 ∙ ap (asOutputs _ _) (c .enum-told .given .1)), search needs)
 
 put-kinds-requires : tie.Need-put-kinds-requires
 put-kinds-requires c κs = (omega (arith, size-kept 49152 (c .before .before .before .before .before .before .before .before .before .before .before .before .before .before .before .before .before .before .before .before .before .before .before .pre .0) (c .before .before .before .before .before .before .before .before .put-outputs .kept .0 ∙ c .before .before .before .before .before .before .before .before .before .before .before .before .before .before .before .before .before .place-all .kept .0), c .before .before .before .before .before .before .before .before .before .before .before .used-cells .ensures .1), c .before .before .before .before .before .before .before .before .before .before .before .used-cells .ensures .1 .1)
@@ -55,7 +55,7 @@ same-length-5 : tie.Need-same-length-5
 same-length-5 c = search needs
 
 returns-3 : tie.Need-returns-3
-returns-3 c = (fit-laid (patternsOf (c .before .before .before .before .before .before .before .before .before .before .before .before .before .before .before .before .before .before .before .before .before .before .before .before .before .before .args .text .now)) (c .before .before .before .before .before .before .before .before .before .before .before .before .before .before .before .before .before .before .before .before .before .before .before .before .before .before .pre .0) (c .before .before .before .before .before .before .before .before .before .before .before .before .before .before .before .before .before .before .before .before .before .before .before .before .before .before .pre .1) refl (c .before .before .before .before .before .before .before .before .before .before .before .before .before .before .before .before .before .before .before .before .place-all .ensures .fits (not-false _ (c .before .before .before .before .before .before .before .before .before .before .before .before .before .before .before .before .if1 .left))) (c .before .before .before .before .before .before .before .before .before .before .before .before .before .before .used-cells .ensures .0) (c .before .before .before .before .before .before .before .before .before .before .before .put-outputs .ensures .0 ∙ ap (asOutputs _ _) (c .before .before .before .before .before .outcome .given .1)) (c .before .before .put-kinds .ensures), (c .before .before .before .before .before .before .before .before .before .before .before .before .before .before .used-cells .ensures .1 .1, subst (λ e. entriesIn e ≤ 2048) (c .before .before .before .before .before .outcome .given .1) (c .before .before .before .before .before .before .before .before .before .before .before .put-outputs .ensures .1)))
+returns-3 c = (fit-laid (patternsOf (c .before .before .before .before .before .before .before .before .before .before .before .before .before .before .before .before .before .before .before .before .before .before .before .before .before .before .args .text .now)) (c .before .before .before .before .before .before .before .before .before .before .before .before .before .before .before .before .before .before .before .before .before .before .before .before .before .before .pre .0) (c .before .before .before .before .before .before .before .before .before .before .before .before .before .before .before .before .before .before .before .before .before .before .before .before .before .before .pre .1) refl (c .before .before .before .before .before .before .before .before .before .before .before .before .before .before .before .before .before .before .before .before .place-all .ensures .0 .fits (not-false _ (c .before .before .before .before .before .before .before .before .before .before .before .before .before .before .before .before .if1 .left))) (c .before .before .before .before .before .before .before .before .before .before .before .before .before .before .used-cells .ensures .0) (c .before .before .before .before .before .before .before .before .before .before .before .put-outputs .ensures .0 ∙ ap (asOutputs _ _) (c .before .before .before .before .before .outcome .given .1)) (c .before .before .put-kinds .ensures), (c .before .before .before .before .before .before .before .before .before .before .before .before .before .before .used-cells .ensures .1 .1, subst (λ e. entriesIn e ≤ 2048) (c .before .before .before .before .before .outcome .given .1) (c .before .before .before .before .before .before .before .before .before .before .before .put-outputs .ensures .1)))
 
 pub fill-spec : {M : Type 1} → statement M
 fill-spec =

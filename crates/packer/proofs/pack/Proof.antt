@@ -1,14 +1,16 @@
 use borrow.Author.Needs.{needs}
 use Prim.Native.Nat.{_≤_}
-use mathlib.Core.Path.{_≡_, refl, sym, _∙_, ap, subst}
+use mathlib.Core.Path.{sym, _∙_, subst}
 use Rattle.base.specs.Limits.{packRoom}
-use lib.ListN.{length}
+use Rattle.base.proofs.Grounds.{judged-by}
+use Rattle.lists.proofs.Order.{patterns-ordered}
+use Rattle.packer.proofs.Order.{promised}
 use Rattle.packer.proofs.Laws.{pack-short, pack-refused, cleared-start, pack-laid}
 use Rattle.packer.proofs.pack.Statement.{statement}
 use Rattle.packer.proofs.pack.Tie as tie
 
 returns : tie.Need-returns
-returns c = pack-short _ _ (c .if1 .taken)
+returns c = promised _ _ (pack-short _ _ (c .if1 .taken))
 
 judge-patterns-requires : tie.Need-judge-patterns-requires
 judge-patterns-requires c κs = search needs
@@ -17,7 +19,7 @@ enum-known-judged : tie.Need-enum-known-judged
 enum-known-judged c = search needs
 
 returns-2 : tie.Need-returns-2
-returns-2 c = pack-refused _ _ (c .before .before .before .before .if1 .left) (sym (c .before .before .before .judge-patterns .ensures) ∙ c .before .judged .given .1)
+returns-2 c = promised _ _ (pack-refused _ _ (c .before .before .before .before .if1 .left) (sym (judged-by (patterns-ordered _) (c .before .before .before .judge-patterns .ensures)) ∙ c .before .judged .given .1))
 
 enum-told : tie.Need-enum-told
 enum-told c = search needs
@@ -26,13 +28,13 @@ clear-from-requires : tie.Need-clear-from-requires
 clear-from-requires c κs = search needs
 
 lay-requires : tie.Need-lay-requires
-lay-requires c κs = (subst (λ n. packRoom ≤ n) (sym (c .before .before .before .clear-from .kept .0)) (c .before .before .before .before .before .before .before .before .if1 .left), cleared-start (c .before .before .before .before .before .before .before .before .before .before .before .args .text .now) _ (c .before .before .before .before .before .before .before .before .if1 .left) (c .before .before .before .clear-from .ensures), sym (c .before .before .before .before .before .before .before .judge-patterns .ensures) ∙ c .before .before .before .before .before .enum-told .given .1)
+lay-requires c κs = (subst (λ n. packRoom ≤ n) (sym (c .before .before .before .clear-from .kept .0)) (c .before .before .before .before .before .before .before .before .if1 .left), cleared-start (c .before .before .before .before .before .before .before .before .before .before .before .args .text .now) _ (c .before .before .before .before .before .before .before .before .if1 .left) (c .before .before .before .clear-from .ensures), sym (judged-by (patterns-ordered _) (c .before .before .before .before .before .before .before .judge-patterns .ensures)) ∙ c .before .before .before .before .before .enum-told .given .1)
 
 same-length : tie.Need-same-length
 same-length c = search needs
 
 returns-3 : tie.Need-returns-3
-returns-3 c = pack-laid _ _ (c .before .before .before .before .before .before .before .before .before .before .before .if1 .left) (c .before .before .before .before .before .before .clear-from .ensures) (sym (c .before .before .before .before .before .before .before .before .before .before .judge-patterns .ensures) ∙ c .before .before .before .before .before .before .before .before .enum-told .given .1) (c .before .before .lay .ensures)
+returns-3 c = promised _ _ (pack-laid _ _ (c .before .before .before .before .before .before .before .before .before .before .before .if1 .left) (c .before .before .before .before .before .before .clear-from .ensures) (sym (judged-by (patterns-ordered _) (c .before .before .before .before .before .before .before .before .before .before .judge-patterns .ensures)) ∙ c .before .before .before .before .before .before .before .before .enum-told .given .1) (c .before .before .lay .ensures))
 
 pub pack-spec : {M : Type 1} → statement M
 pack-spec =

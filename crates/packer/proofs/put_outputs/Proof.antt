@@ -89,7 +89,7 @@ loop-again c = (
   c .before .before .before .before .before .before .before .before .before .before .enter-levels .kept .0 ∙ c .before .before .before .before .before .before .before .before .before .before .before .before .before .before .before .before .before .loop .inv .1,
   c .before .before .before .before .before .before .before .before .before .before .before .before .before .before .before .before .before .loop .inv .2,
   c .before .before .put-output .kept .0 ∙ c .before .before .before .before .before .before .before .before .before .before .before .before .before .before .before .before .before .loop .inv .3,
-  subst (λ e. countOf e ≤ 2048) (c .before .before .before .before .before .before .step .given .1) (c .before .before .before .before .before .before .before .before .before .before .enter-levels .ensures .1),
+  subst (λ e. countOf e ≤ 2048) (c .before .before .before .before .before .before .step .given .1) (c .before .before .before .before .before .before .before .before .before .before .enter-levels .ensures .1 .0),
   shaped-on _ _ _ (c .before .before .before .before .before .before .before .before .before .before .before .before .before .before .before .before .loop-test .taken) (c .before .before .before .before .before .before .before .before .before .before .before .before .before .before .before .line-end .ensures) (c .before .before .before .before .before .before .before .before .before .before .before .before .before .before .before .before .before .loop .inv .5),
   c .before .before .before .before .before .before .before .before .before .before .before .before .before .before .before .before .before .loop .inv .6 ∙ outputs-on _ _ _ (c .before .before .before .before .before .before .before .before .before .before .before .before .before .before .before .before .loop-test .taken) (c .before .before .before .before .before .before .before .before .before .before .before .before .before .before .before .line-end .ensures) _ _ _ _ (c .before .before .before .before .before .before .before .before .before .before .before .before .before .symbol-count .ensures) (c .before .before .before .before .before .before .before .before .before .before .enter-levels .ensures .0 ∙ ap (asEntries _) (c .before .before .before .before .before .before .step .given .1)) refl (c .before .before .put-output .ensures),
 )

@@ -28,7 +28,7 @@ same-length-2 : tie.Need-same-length-2 Inv-loop μ-loop
 same-length-2 c = c .before .before .before .before .before .place-length .kept .1 .0 ∙ c .before .before .before .before .before .before .before .before .before .loop .inv .1 .ofBases ∙ sym (c .before .before .before .before .before .before .before .before .before .before .before .before .before .pre .ofBases)
 
 returns : tie.Need-returns Inv-loop μ-loop
-returns c = refused (c .before .before .before .before .before .before .before .before .before .loop .inv .2 ∙ lengths-stop _ 16 _ _ _ (c .before .before .before .before .before .before .before .before .loop-test .taken) (c .before .before .before .before .before .place-length .ensures) (not-true _ (c .if1 .taken)))
+returns c = (refused (c .before .before .before .before .before .before .before .before .before .loop .inv .2 ∙ lengths-stop _ 16 _ _ _ (c .before .before .before .before .before .before .before .before .loop-test .taken) (c .before .before .before .before .before .place-length .ensures) (not-true _ (c .if1 .taken))), sized-kept (c .before .before .before .before .before .before .before .before .before .loop .inv .1) (c .before .before .before .before .before .place-length .kept .0) (c .before .before .before .before .before .place-length .kept .1 .0))
 
 add-m : tie.Need-add-m Inv-loop μ-loop
 add-m c = search needs
@@ -46,7 +46,7 @@ same-length-4 : tie.Need-same-length-4 Inv-loop μ-loop
 same-length-4 c = c .before .loop .inv .1 .ofBases ∙ sym (c .before .before .before .before .before .pre .ofBases)
 
 returns-2 : tie.Need-returns-2 Inv-loop μ-loop
-returns-2 c = placed (c .before .loop .inv .2 ∙ lengths-done _ 16 _ _ (c .loop-test .left))
+returns-2 c = (placed (c .before .loop .inv .2 ∙ lengths-done _ 16 _ _ (c .loop-test .left)), c .before .loop .inv .1)
 
 pub place-all-spec : {M : Type 1} → statement M
 place-all-spec =

@@ -10,13 +10,13 @@ enum-known-answer : tie.Need-enum-known-answer
 enum-known-answer c = search needs
 
 put-line-requires : tie.Need-put-line-requires
-put-line-requires c κs = (found-marks _ _ (c .before .before .before .before .before .before .before .before .before .before .before .before .before .before .before .args .word .now) _ _ _ (c .before .before .before .before .before .before .before .before .before .before .before .before .before .before .before .args .marks .now) (c .before .before .before .before .before .before .before .hyphenate-word .ensures) (c .before .before .before .answer .given .1), found-fits _ _ (c .before .before .before .before .before .before .before .before .before .before .before .before .before .before .before .args .word .now) _ _ _ (c .before .before .before .before .before .before .before .before .before .before .before .before .before .before .before .args .marks .now) (c .before .before .before .before .before .before .before .hyphenate-word .ensures) (c .before .before .before .answer .given .1) _ _ (c .before .before .before .before .before .before .before .before .before .before .before .before .before .before .before .pre .1))
+put-line-requires c κs = (found-marks _ _ (c .before .before .before .before .before .before .before .before .before .before .before .before .before .before .before .args .word .now) _ _ _ (c .before .before .before .before .before .before .before .before .before .before .before .before .before .before .before .args .marks .now) (c .before .before .before .before .before .before .before .hyphenate-word .ensures) (c .before .before .before .answer .given .1), found-fits _ _ (c .before .before .before .before .before .before .before .before .before .before .before .before .before .before .before .args .word .now) _ _ _ (c .before .before .before .before .before .before .before .before .before .before .before .before .before .before .before .args .marks .now) (c .before .before .before .before .before .before .before .hyphenate-word .ensures) (c .before .before .before .answer .given .1) _ _ (c .before .before .before .before .before .before .before .before .before .before .before .before .before .before .before .pre))
 
 enum-known-answer-2 : tie.Need-enum-known-answer-2
 enum-known-answer-2 c = search needs
 
 put-refusal-requires : tie.Need-put-refusal-requires
-put-refusal-requires c κs = refusal-fits 63 (c .before .before .answer2 .given .0 .0) _ _ (c .before .before .before .before .before .before .before .before .before .before .before .before .before .before .pre .1)
+put-refusal-requires c κs = refusal-fits 63 (c .before .before .answer2 .given .0 .0) _ _ (c .before .before .before .before .before .before .before .before .before .before .before .before .before .before .pre)
 
 same-length : tie.Need-same-length
 same-length c = search needs

@@ -1,5 +1,5 @@
 use borrow.Author.Needs.{needs}
-use Rattle.table.proofs.Laws.{entries-none, entries-past, entries-part}
+use Rattle.table.proofs.Laws.{entries-none, entries-past, entries-part, entries-short, entries-cut, entries-behind}
 use Rattle.table.proofs.entries_of.Statement.{statement}
 use Rattle.table.proofs.entries_of.Tie as tie
 
@@ -7,7 +7,7 @@ slice-aggregate-result : tie.Need-slice-aggregate-result
 slice-aggregate-result c = search needs
 
 returns : tie.Need-returns
-returns c = entries-none _ (c .before .if1 .taken)
+returns c = (entries-none _ (c .before .if1 .taken), entries-short _ _ (c .before .if1 .taken))
 
 number-in-requires : tie.Need-number-in-requires
 number-in-requires c κs = search needs
@@ -25,7 +25,7 @@ slice-aggregate-result-2 : tie.Need-slice-aggregate-result-2
 slice-aggregate-result-2 c = search needs
 
 returns-2 : tie.Need-returns-2
-returns-2 c = entries-past _ (c .before .before .number-in .ensures) (c .before .if2 .taken)
+returns-2 c = (entries-past _ (c .before .before .number-in .ensures) (c .before .if2 .taken), entries-cut _ _ (c .before .before .number-in .ensures) (c .before .if2 .taken))
 
 sub-result : tie.Need-sub-result
 sub-result c = search needs
@@ -37,7 +37,7 @@ part-result-end : tie.Need-part-result-end
 part-result-end c = search needs
 
 returns-3 : tie.Need-returns-3
-returns-3 c = entries-part _ (c .before .before .number-in .ensures)
+returns-3 c = (entries-part _ (c .before .before .number-in .ensures), entries-behind _ _ (c .before .before .number-in .ensures) (c .before .if2 .left))
 
 pub entries-of-spec : {M : Type 1} → statement M
 entries-of-spec =

@@ -4,6 +4,8 @@ use mathlib.Core.Path.{_≡_, sym, _∙_}
 use borrow.Author.Tests.{not-true, not-false}
 use lib.ListN.{length, drop}
 use Rattle.words.specs.Words.{judgeWord, allLetters}
+use Rattle.base.proofs.Grounds.{said-by}
+use Rattle.words.proofs.Order.{word-ordered}
 use Rattle.words.proofs.Laws.{word-empty, word-long, word-scan, letters-pass, letters-stop, letters-end}
 use Rattle.words.proofs.judge_word.Statement.{statement}
 use Rattle.words.proofs.judge_word.Tie as tie
@@ -15,10 +17,10 @@ abbrev μ-loop : tie.MeasureT-loop
 μ-loop word limit i₀ i = length word - i
 
 returns : tie.Need-returns Inv-loop μ-loop
-returns c = search word-empty
+returns c = said-by (word-ordered _ _) (word-empty _ _ (c .if1 .taken))
 
 returns-2 : tie.Need-returns-2 Inv-loop μ-loop
-returns-2 c = search word-long
+returns-2 c = said-by (word-ordered _ _) (word-long _ _ (c .before .if1 .left) (c .if2 .taken))
 
 loop-holds : tie.Need-loop-holds Inv-loop μ-loop
 loop-holds c = (search needs, search word-scan)
@@ -30,7 +32,7 @@ is-letter-requires : tie.Need-is-letter-requires Inv-loop μ-loop
 is-letter-requires c κs = search needs
 
 returns-3 : tie.Need-returns-3 Inv-loop μ-loop
-returns-3 c = sym (c .before .before .before .before .loop .inv .1 ∙ letters-stop _ _ (c .before .before .before .loop-test .taken) (sym (c .before .is-letter .ensures) ∙ not-true _ (c .if3 .taken)))
+returns-3 c = said-by (word-ordered _ _) (sym (c .before .before .before .before .loop .inv .1 ∙ letters-stop _ _ (c .before .before .before .loop-test .taken) (sym (c .before .is-letter .ensures) ∙ not-true _ (c .if3 .taken))))
 
 add-i : tie.Need-add-i Inv-loop μ-loop
 add-i c = search needs
@@ -42,7 +44,7 @@ loop-again : tie.Need-loop-again Inv-loop μ-loop
 loop-again c = (search needs, c .before .before .before .before .loop .inv .1 ∙ letters-pass _ _ (c .before .before .before .loop-test .taken) (sym (c .before .is-letter .ensures) ∙ not-false _ (c .if3 .left)))
 
 returns-4 : tie.Need-returns-4 Inv-loop μ-loop
-returns-4 c = sym (c .before .loop .inv .1 ∙ letters-end _ _ (c .loop-test .left))
+returns-4 c = said-by (word-ordered _ _) (sym (c .before .loop .inv .1 ∙ letters-end _ _ (c .loop-test .left)))
 
 pub judge-word-spec : {M : Type 1} → statement M
 judge-word-spec =

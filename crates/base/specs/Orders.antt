@@ -1,0 +1,24 @@
+-- "Order": in which order each call asks its grounds, as document 01 writes it. Where a number stands twice, it is asked of the
+-- customer's list and then of the house's.
+use Prim.Native.Nat.{ℕ}
+use mathlib.Core.List.{List, [], _∷_}
+
+-- "hyphenating call 1, 5, 2, 4, 3, 8 (customer, house), 6 (customer, house), 9"
+abbrev pub hyphenateOrder : List ℕ
+hyphenateOrder = 1 ∷ 5 ∷ 2 ∷ 4 ∷ 3 ∷ 8 ∷ 8 ∷ 6 ∷ 6 ∷ 9 ∷ []
+
+-- "levels call 5, 2, 4, 3, 9"
+abbrev pub levelsOrder : List ℕ
+levelsOrder = 5 ∷ 2 ∷ 4 ∷ 3 ∷ 9 ∷ []
+
+-- "packer 10, 8, 7, 11"
+abbrev pub packOrder : List ℕ
+packOrder = 10 ∷ 8 ∷ 7 ∷ 11 ∷ []
+
+-- "checker 8, 7, 9, 12"
+abbrev pub checkOrder : List ℕ
+checkOrder = 8 ∷ 7 ∷ 9 ∷ 12 ∷ []
+
+-- The lookup: "grounds 2, 4, 3, 8 or 6, which the hyphenating call names".
+abbrev pub lookupOrder : List ℕ
+lookupOrder = 2 ∷ 4 ∷ 3 ∷ 8 ∷ 8 ∷ 6 ∷ 6 ∷ []

@@ -1,0 +1,112 @@
+-- Demand 1: "every call ends with an answer or a numbered refusal. The numbers, their order, and what each leaves in the memory we
+-- lent are those of document 01, and none is given on other grounds." For each call: its order is document 01's, it finds exactly
+-- where none of these grounds holds, a refusal tells the first that holds, and what is left in lent memory then.
+use Prim.Native.Nat.{ℕ}
+use mathlib.Core.Bool.{Bool, true, false, cond}
+use mathlib.Core.List.{List, []}
+use mathlib.Core.Logic.{_↔_}
+use mathlib.Core.Path.{_≡_, refl, sym, _∙_, ap}
+use lib.Dec.{eqb}
+use lib.ListN.{length}
+use Rattle.base.specs.Grounds.{Told, Said, Finds, Refuses, says, Row, firstOf, numbersOf, isFinding, anyHolds, oneOf}
+use Rattle.base.specs.Orders.{hyphenateOrder, levelsOrder, packOrder, checkOrder, lookupOrder}
+use Rattle.base.specs.declared.Check.{Check}
+use Rattle.base.proofs.Order.{Chosen, finding-exactly, refuses-first, refuses-listed, none-found, some-refused}
+use Rattle.words.specs.Words.{wordGrounds}
+use Rattle.lists.specs.Lists.{patternGrounds, listGrounds}
+use Rattle.lookup.specs.Find.{findEither}
+use Rattle.lookup.specs.Lookup.{lookupGrounds, lineSaid, valuesOf, lookupSaid}
+use Rattle.liang.specs.Patterns.{patternsOf}
+use Rattle.table.specs.Table.{tableGrounds}
+use Rattle.right.specs.Test.{checkGrounds}
+use Rattle.fit.specs.Table.{firstFit}
+use Rattle.hyphenation.specs.Calls.{roomGrounds, marginGrounds, levelsGrounds, hyphenateGrounds, answerSaid, roomLeft, Answers, Levels, Breaks}
+use Rattle.hyphenation.specs.declared.Answer.{Answer}
+use Rattle.packer.specs.Pack.{packGrounds, fitBytes, packingSaid, packSaid, packedRoom, packLeft, Packs}
+use Rattle.packer.specs.declared.Packing.{Packing}
+
+-- What demand 1 says of one answer of a call with this order of grounds.
+pub record Numbered (order : List ℕ) (grounds : List Row) (said : Said) : Type 0 where
+  -- "The numbers, their order": the grounds have document 01's numbers
+  pub ordered : numbersOf grounds ≡ order
+  -- the answer is a finding exactly where no ground holds
+  pub finds : (isFinding said ≡ true) ↔ (anyHolds grounds ≡ false)
+  -- a refusal tells the number, list and place of the first ground that holds
+  pub first : (t : Told) → said ≡ Refuses t → Chosen grounds t
+  -- "none is given on other grounds": its number is one of the order's
+  pub listed : (t : Told) → said ≡ Refuses t → oneOf (t .number) order ≡ true
+
+numbered : (order : List ℕ) (grounds : List Row) (values : List ℕ) (said : Said) → numbersOf grounds ≡ order → said ≡ firstOf (Finds values) grounds → Numbered order grounds said
+numbered order grounds values said o p =
+    record {
+      ordered = o;
+      finds = (λ e. finding-exactly grounds values .0 (sym (ap isFinding p) ∙ e), λ e. ap isFinding p ∙ finding-exactly grounds values .1 e);
+      first = λ t e. refuses-first grounds values (sym p ∙ e);
+      listed = λ t e. ap (oneOf (t .number)) (sym o) ∙ refuses-listed grounds values (sym p ∙ e);
+    }
+
+-- "Refusals leave lent memory untouched": both calls that write a sheet
+untouched : {grounds : List Row} {sheet : List ℕ} {looks : ℕ} {room after : List ℕ} {r : Answer} → Answers grounds sheet looks room r after → (t : Told) → answerSaid r ≡ Refuses t → after ≡ room
+untouched {sheet = sheet} {room = room} a t e = a .memory ∙ ap (λ (s : Said). roomLeft s sheet room) (sym (a .answered) ∙ e)
+
+-- The levels call.
+pub levels-order : (word table : List ℕ) (size : ℕ) → numbersOf (levelsGrounds word table size) ≡ levelsOrder
+unfolding levelsGrounds roomGrounds wordGrounds tableGrounds
+levels-order word table size = refl
+
+module _ (word table room after : List ℕ) (r : Answer) (l : Levels word table room r after) where
+  pub levels-numbered : Numbered levelsOrder (levelsGrounds word table (length room)) (answerSaid r)
+  levels-numbered = numbered levelsOrder _ _ (answerSaid r) (levels-order word table (length room)) (l .answered)
+
+  pub levels-refused : (t : Told) → answerSaid r ≡ Refuses t → after ≡ room
+  levels-refused = untouched l
+
+-- The hyphenating call.
+pub hyphenate-order : (left right : ℕ) (word customer house table : List ℕ) (size : ℕ) → numbersOf (hyphenateGrounds left right word customer house table size) ≡ hyphenateOrder
+unfolding hyphenateGrounds marginGrounds roomGrounds wordGrounds listGrounds tableGrounds
+hyphenate-order left right word customer house table size = refl
+
+module _ (left right : ℕ) (word customer house table room after : List ℕ) (r : Answer) (b : Breaks left right word customer house table room r after) where
+  pub hyphenate-numbered : Numbered hyphenateOrder (hyphenateGrounds left right word customer house table (length room)) (answerSaid r)
+  hyphenate-numbered = numbered hyphenateOrder _ _ (answerSaid r) (hyphenate-order left right word customer house table (length room)) (b .answered)
+
+  pub hyphenate-refused : (t : Told) → answerSaid r ≡ Refuses t → after ≡ room
+  hyphenate-refused = untouched b
+
+-- The packer.
+pub pack-order : (text : List ℕ) (size : ℕ) → numbersOf (packGrounds text size) ≡ packOrder
+unfolding packGrounds patternGrounds
+pack-order text size = refl
+
+module _ (text room after : List ℕ) (r : Packing) (p : Packs text room r after) where
+  pub pack-numbered : Numbered packOrder (packGrounds text (length room)) (packingSaid r)
+  unfolding packSaid
+  pack-numbered = numbered packOrder _ _ (packingSaid r) (pack-order text (length room)) (p .answered)
+
+  -- "Refusals leave lent memory untouched, except 11, which sets the pack room's first 59,398 bytes to zero."
+  pub pack-refused : (t : Told) → packingSaid r ≡ Refuses t → eqb (t .number) 11 ≡ false → after ≡ room
+  pack-refused t e n = p .memory ∙ ap (λ (s : Said). packLeft s (fitBytes (firstFit (patternsOf text))) room) (sym (p .answered) ∙ e) ∙ ap (λ (z : Bool). cond z (packedRoom [] room) room) n
+
+  pub pack-no-room : (t : Told) → packingSaid r ≡ Refuses t → eqb (t .number) 11 ≡ true → after ≡ packedRoom [] room
+  pack-no-room t e n = p .memory ∙ ap (λ (s : Said). packLeft s (fitBytes (firstFit (patternsOf text))) room) (sym (p .answered) ∙ e) ∙ ap (λ (z : Bool). cond z (packedRoom [] room) room) n
+
+-- The checker, which is lent no memory to write.
+pub check-order : (text table : List ℕ) → numbersOf (checkGrounds text table) ≡ checkOrder
+unfolding checkGrounds patternGrounds tableGrounds
+check-order text table = refl
+
+pub check-numbered : (text table : List ℕ) (r : Check) → says r ≡ firstOf (Finds []) (checkGrounds text table) → Numbered checkOrder (checkGrounds text table) (says r)
+check-numbered text table r p = numbered checkOrder _ [] (says r) (check-order text table) p
+
+-- The lookup: "An empty part means no line, or a refusal on grounds 2, 4, 3, 8 or 6, which the hyphenating call names."
+pub lookup-order : (word customer house : List ℕ) → numbersOf (lookupGrounds word customer house) ≡ lookupOrder
+unfolding lookupGrounds wordGrounds listGrounds
+lookup-order word customer house = refl
+
+pub lookup-refused : (word customer house : List ℕ) → anyHolds (lookupGrounds word customer house) ≡ true → lookupSaid word customer house ≡ []
+unfolding lookupSaid
+lookup-refused word customer house e = ap valuesOf (some-refused (lookupGrounds word customer house) _ e .1)
+
+pub lookup-answered : (word customer house : List ℕ) → anyHolds (lookupGrounds word customer house) ≡ false → lookupSaid word customer house ≡ lineSaid (findEither word customer house)
+unfolding lookupSaid
+lookup-answered word customer house e = ap valuesOf (none-found (lookupGrounds word customer house) _ e)

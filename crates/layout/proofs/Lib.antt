@@ -1,0 +1,12 @@
+pub mod Nodes
+pub mod Search
+pub mod Needed
+pub mod Passes
+pub mod Paths
+pub mod Bases
+pub mod Entries
+pub mod Low
+pub mod Cells
+pub mod Table
+pub mod Packed
+pub mod Theorems

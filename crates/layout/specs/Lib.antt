@@ -1,0 +1,4 @@
+pub mod Bases
+pub mod FirstFit
+pub mod Entries
+pub mod Table
