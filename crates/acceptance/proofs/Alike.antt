@@ -13,10 +13,11 @@ use Rattle.base.proofs.Lists.{never}
 use Rattle.liang.specs.Patterns.{Pattern}
 use Rattle.liang.specs.Levels.{begins}
 use Rattle.patterns.specs.Common.{common}
-use Rattle.right.specs.Paths.{along, Beginning, noPattern, nth}
+use Rattle.right.specs.Paths.{along}
+use Rattle.patterns.specs.Strings.{Beginning, noPattern, nth, Sorted}
 use Rattle.right.specs.Test.{isHit}
-use Rattle.acceptance.proofs.Strings.{begins-above, begins-snoc, begins-init, begins-next}
-use Rattle.acceptance.proofs.Order.{Sorted, above, New, new-at, nextAt, stand-together, next-ascends}
+use Rattle.patterns.proofs.Strings.{begins-above, begins-snoc, begins-init, begins-next}
+use Rattle.patterns.proofs.Sorted.{above, New, new-at, nextAt, stand-together, next-ascends}
 use Rattle.acceptance.proofs.Nodes.{None, nextOf, Passed}
 
 module _ (patterns : List Pattern) (cells : List ℕ) (root : ℕ) where

@@ -11,13 +11,13 @@ use Rattle.table.specs.Table.{cellKind, entryKind, cellSize, entrySize}
 use Rattle.liang.specs.Patterns.{Pattern}
 use Rattle.liang.specs.Levels.{begins}
 use Rattle.patterns.specs.Common.{common}
-use Rattle.right.specs.Paths.{along, Beginning, nth}
+use Rattle.right.specs.Paths.{along}
+use Rattle.patterns.specs.Strings.{Beginning, nth, Shaped, Sorted}
 use Rattle.right.specs.Right.{Exact, Kinds}
 use Rattle.right.specs.Test.{isHit, kindsFrom, patternsRight, rightTest}
-use Rattle.accepted.specs.Shaped.{Shaped}
-use Rattle.accepted.proofs.Strings.{both}
-use Rattle.acceptance.proofs.Strings.{begins-whole, alphabet-most}
-use Rattle.acceptance.proofs.Order.{Sorted, above, New, new-at, whole-first}
+use Rattle.base.proofs.Lists.{both}
+use Rattle.patterns.proofs.Strings.{begins-whole, alphabet-most}
+use Rattle.patterns.proofs.Sorted.{above, New, new-at, whole-first}
 use Rattle.acceptance.proofs.Loops.{test-kinds, cells-test, entries-test, test-exact, exact-test}
 use Rattle.acceptance.proofs.Nodes.{outOf, nodeAt, none-each, each-none, test-passed, passed-test}
 use Rattle.acceptance.proofs.Follow.{Asked, follow-whole, follow-asked, asked-follow, patterns-each, each-patterns}

@@ -16,11 +16,12 @@ use Rattle.table.specs.declared.Look.the-variants.{Hit, Miss}
 use Rattle.liang.specs.Patterns.{Pattern}
 use Rattle.liang.specs.Levels.{begins}
 use Rattle.patterns.specs.Common.{common}
-use Rattle.right.specs.Paths.{along, nth}
+use Rattle.right.specs.Paths.{along}
+use Rattle.patterns.specs.Strings.{nth}
 use Rattle.right.specs.Test.{Node, linked, rootAt, isHit, noneBetween, passedOver, besides, exactTest, followStep, follow, firstSymbols, patternsRight}
-use Rattle.accepted.proofs.Strings.{both}
-use Rattle.acceptance.proofs.Strings.{begins-length, begins-take, take-begins}
-use Rattle.acceptance.proofs.Order.{above}
+use Rattle.base.proofs.Lists.{both}
+use Rattle.patterns.proofs.Strings.{begins-length, begins-take, take-begins}
+use Rattle.patterns.proofs.Sorted.{above}
 use Rattle.acceptance.proofs.Nodes.{behind, outOf, nodeAt, node-behind, child-along}
 
 -- a step goes on where the look hits

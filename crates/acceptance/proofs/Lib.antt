@@ -1,11 +1,8 @@
-pub mod Strings
-pub mod Order
 pub mod Loops
 pub mod Nodes
 pub mod Follow
 pub mod Alike
 pub mod Checked
 pub mod Test
-pub mod Lists
 pub mod Theorems
 pub mod Refusals

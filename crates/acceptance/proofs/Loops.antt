@@ -14,9 +14,10 @@ use Rattle.liang.specs.Patterns.{Pattern}
 use Rattle.walk.specs.Chain.{chain}
 use Rattle.walk.specs.Raise.{highestSet}
 use Rattle.right.specs.Right.{Exact, Kinds, sound}
-use Rattle.right.specs.Test.{allFrom, kindsFrom, exactTest}
-use Rattle.right.proofs.All.{each-all}
-use Rattle.accepted.proofs.Strings.{both}
+use Rattle.base.specs.Tests.{allFrom}
+use Rattle.right.specs.Test.{kindsFrom, exactTest}
+use Rattle.base.proofs.All.{each-all}
+use Rattle.base.proofs.Lists.{both}
 
 module _ (test : ℕ → Bool) where
   pub all-each : (k n : ℕ) → allFrom test k n ≡ true → (j : ℕ) → k ≤ j → j < k + n → test j ≡ true

@@ -8,7 +8,7 @@ use borrow.Author.Tests.{ltb-true, ltb-false, le-leb, lt-leb, eqb-true, eqb-fals
 use lib.Dec.{leb, ltb, eqb}
 use lib.ListN.{length, getD}
 use Rattle.base.specs.Limits.{symbols}
-use Rattle.base.proofs.Lists.{never}
+use Rattle.base.proofs.Lists.{never, both}
 use Rattle.table.specs.Table.{look}
 use Rattle.table.specs.declared.Look.{Look}
 use Rattle.table.specs.declared.Look.the-variants.{Hit, Miss}
@@ -16,9 +16,8 @@ use Rattle.liang.specs.Levels.{begins}
 use Rattle.patterns.specs.Common.{common}
 use Rattle.right.specs.Paths.{onward, along}
 use Rattle.right.specs.Test.{Node, linked, rootAt, childAt, isHit, noneBetween, passedOver, besides}
-use Rattle.right.proofs.All.{each-all}
-use Rattle.accepted.proofs.Strings.{both}
-use Rattle.acceptance.proofs.Strings.{begins-shared, begins-above, common-next}
+use Rattle.base.proofs.All.{each-all}
+use Rattle.patterns.proofs.Strings.{begins-shared, begins-above, common-next}
 use Rattle.acceptance.proofs.Loops.{all-each}
 
 -- a string of two parts is followed part by part

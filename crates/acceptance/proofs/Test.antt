@@ -10,13 +10,11 @@ use Rattle.base.proofs.Lists.{never}
 use Rattle.table.specs.declared.Look.{Look}
 use Rattle.table.specs.declared.Look.the-variants.{Hit, Miss}
 use Rattle.liang.specs.Patterns.{Pattern}
-use Rattle.right.specs.Paths.{onward, along, allSymbols, Path, Beginning, nth}
+use Rattle.right.specs.Paths.{onward, along, Path}
+use Rattle.patterns.specs.Strings.{allSymbols, Beginning, nth, Shaped, Sorted}
 use Rattle.right.specs.Right.{Exact, Right}
 use Rattle.right.specs.Test.{isHit, rightTest}
-use Rattle.accepted.specs.Shaped.{Shaped}
-use Rattle.accepted.proofs.Strings.{begins-self, begins-alphabet, alphabet-rest}
-use Rattle.acceptance.proofs.Strings.{begins-length, alphabet-first, alphabet-snoc}
-use Rattle.acceptance.proofs.Order.{Sorted}
+use Rattle.patterns.proofs.Strings.{begins-self, begins-alphabet, alphabet-rest, begins-length, alphabet-first, alphabet-snoc}
 use Rattle.acceptance.proofs.Nodes.{along-append, outOf}
 use Rattle.acceptance.proofs.Alike.{Alike}
 use Rattle.acceptance.proofs.Checked.{Checked, test-checked, checked-test}

@@ -14,7 +14,8 @@ use Rattle.liang.specs.Patterns.{patternsOf}
 use Rattle.table.specs.Table.{cellCount, entryCount, judgeTable, cellsOf, entriesOf}
 use Rattle.right.specs.Right.{Right}
 use Rattle.right.specs.Test.{rightTest, judgeCheck}
-use Rattle.acceptance.proofs.Lists.{good-sorted, good-patterns, cells-length, entries-length}
+use Rattle.patterns.proofs.Good.{good-sorted, good-patterns}
+use Rattle.table.proofs.Parts.{cells-length, entries-length}
 use Rattle.acceptance.proofs.Test.{test-right, right-test}
 
 -- for a good list and a well-formed table the test tells whether the table is right

@@ -14,10 +14,10 @@ use Rattle.liang.specs.Levels.{begins, levelHere, levelOf, highest}
 use Rattle.walk.specs.Chain.{chain, chainFrom}
 use Rattle.walk.specs.Walk.{setFrom, settings}
 use Rattle.walk.specs.Raise.{highestSet}
-use Rattle.right.specs.Paths.{allSymbols, Path, nth}
+use Rattle.patterns.specs.Strings.{allSymbols, nth, Shaped}
+use Rattle.right.specs.Paths.{Path}
 use Rattle.right.specs.Right.{Right, Exact}
-use Rattle.accepted.specs.Shaped.{Shaped}
-use Rattle.accepted.proofs.Strings.{begins-self, begins-alphabet, alphabet-rest, Found, search-pattern, most-each, most-all}
+use Rattle.patterns.proofs.Strings.{begins-self, begins-alphabet, alphabet-rest, Found, search-pattern, most-each, most-all}
 use Rattle.accepted.proofs.Chains.{highest-append, chain-most, chain-least}
 use Rattle.accepted.proofs.Matches.{Matched, matched, match-of, sets-least, sets-most}
 

@@ -1,4 +1,3 @@
-pub mod Strings
 pub mod Chains
 pub mod Matches
 pub mod Levels

@@ -14,12 +14,11 @@ use Rattle.table.specs.declared.Look.the-variants.{Hit, Miss}
 use Rattle.liang.specs.Patterns.{Pattern}
 use Rattle.walk.specs.Walk.{lookStep, looksFrom, matchesFrom}
 use Rattle.walk.proofs.Count.{walk-few, looks-matches}
-use Rattle.right.specs.Paths.{allSymbols, nth}
+use Rattle.patterns.specs.Strings.{allSymbols, nth, Shaped}
 use Rattle.right.specs.Right.{Right}
-use Rattle.accepted.specs.Shaped.{Shaped}
 use Rattle.patterns.specs.Common.{common}
 use Rattle.accepted.specs.Longest.{longest}
-use Rattle.accepted.proofs.Strings.{begins-alphabet, begins-common, Shared, shared, most-each, most-all}
+use Rattle.patterns.proofs.Strings.{begins-alphabet, begins-common, Shared, shared, most-each, most-all}
 use Rattle.accepted.proofs.Matches.{Match, matched, match-of, matches-least, matches-most}
 
 -- n looks, where the longest beginning has m symbols

@@ -16,7 +16,7 @@ use Rattle.walk.specs.Chain.{chain}
 use Rattle.walk.specs.Walk.{setStep, setFrom, matchStep, matchesFrom}
 use Rattle.walk.specs.Raise.{highestSet}
 use Rattle.right.specs.Paths.{onward, along}
-use Rattle.accepted.proofs.Strings.{begins-cons, begins-more}
+use Rattle.patterns.proofs.Strings.{begins-cons, begins-more}
 use Rattle.accepted.proofs.Chains.{highest-append}
 
 -- A walk of at most `left` symbols over a row matches a string, whose last cell has this link and output.

@@ -10,7 +10,7 @@ use borrow.Author.Tests.{eqb-true, eqb-false, ltb-true}
 use lib.Dec.{leb, ltb, eqb}
 use lib.ListN.{length, getD}
 use Rattle.base.specs.Limits.{symbols, patternLimit, levelLimit}
-use Rattle.base.proofs.Lists.{never}
+use Rattle.base.proofs.Lists.{never, both}
 use Rattle.liang.specs.Patterns.{Pattern}
 use Rattle.table.specs.Table.{cellKind, cellSize, entrySize, numberAt, look, entryAt}
 use Rattle.table.specs.declared.Look.{Look}
@@ -20,10 +20,11 @@ use Rattle.table.specs.declared.Entry.the-variants.{Has, Stop}
 use Rattle.walk.specs.Chain.{Setting, setting, chainStep, chainFrom, chain}
 use Rattle.walk.specs.Walk.{setStep, setFrom, lookStep, looksFrom, settings, looks}
 use Rattle.walk.specs.Raise.{highestSet}
-use Rattle.right.specs.Paths.{onward, along, allSymbols, Path, nth}
+use Rattle.right.specs.Paths.{onward, along, Path}
+use Rattle.patterns.specs.Strings.{allSymbols, nth}
 use Rattle.right.specs.Right.{soundStep, soundFrom, sound, Exact, Kinds, Right}
 use Rattle.right.specs.Reached.{linkOf, endCell, CellReached, OnChain, here, later, EntryReached, SameBytes}
-use Rattle.accepted.proofs.Strings.{both, begins-self, alphabet-rest}
+use Rattle.patterns.proofs.Strings.{begins-self, alphabet-rest}
 use Rattle.accepted.proofs.Matches.{along-further}
 
 -- one byte of those that agree

@@ -1,3 +1,4 @@
 pub mod Limits
 pub mod Grounds
 pub mod Orders
+pub mod Tests

@@ -36,8 +36,9 @@ use Rattle.walk.specs.Chain.{chain}
 use Rattle.walk.specs.Raise.{highestSet, raiseAll}
 use Rattle.walk.proofs.Raised.{raised-at, chain-moved}
 use Rattle.right.specs.Right.{soundStep, soundFrom, sound}
-use Rattle.right.specs.Test.{allFrom, kindsFrom, exactTest, Node, linked, rootAt, childAt, isHit, noneBetween, Beside, passedOver, followStep, follow, firstSymbols, besides, patternsRight, rightTest}
-use Rattle.right.proofs.All.{all-same, each-all}
+use Rattle.base.specs.Tests.{allFrom}
+use Rattle.right.specs.Test.{kindsFrom, exactTest, Node, linked, rootAt, childAt, isHit, noneBetween, Beside, passedOver, followStep, follow, firstSymbols, besides, patternsRight, rightTest}
+use Rattle.base.proofs.All.{all-same, each-all}
 use Rattle.checker.specs.Post.{sameLevels}
 
 -- the kinds of records

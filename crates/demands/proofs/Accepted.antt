@@ -20,16 +20,15 @@ use Rattle.liang.specs.Patterns.{patternsOf}
 use Rattle.liang.specs.Levels.{liang}
 use Rattle.table.specs.Table.{judgeTable, cellsOf, entriesOf}
 use Rattle.walk.specs.Walk.{looksFrom}
-use Rattle.right.specs.Paths.{allSymbols, nth}
+use Rattle.patterns.specs.Strings.{allSymbols, nth, Shaped}
 use Rattle.right.specs.Right.{Right}
-use Rattle.accepted.specs.Shaped.{Shaped}
 use Rattle.accepted.proofs.Levels.{levels-liang}
 use Rattle.accepted.specs.Longest.{longest}
 use Rattle.accepted.proofs.Looks.{Looked, looks-longest}
-use Rattle.accepted.proofs.Strings.{alphabet-rest}
+use Rattle.patterns.proofs.Strings.{alphabet-rest}
 use Rattle.right.specs.Test.{judgeCheck}
 use Rattle.acceptance.proofs.Theorems.{acceptance}
-use Rattle.acceptance.proofs.Lists.{good-patterns}
+use Rattle.patterns.proofs.Good.{good-patterns}
 use Rattle.hyphenation.specs.Sheet.{written}
 use Rattle.hyphenation.specs.Levels.{levelAt, levelSheet, wordLooks}
 use Rattle.hyphenation.specs.Calls.{rootBase, judgeRoom, judgeLevels, Answered, Levels}

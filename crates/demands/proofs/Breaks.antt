@@ -21,12 +21,12 @@ use Rattle.lookup.specs.declared.Located.the-variants.{Nowhere}
 use Rattle.lookup.proofs.Theorems.{find-listed, find-unlisted, part-listed, lists-good}
 use Rattle.liang.specs.Patterns.{patternsOf}
 use Rattle.liang.specs.Levels.{liang}
-use Rattle.liang.specs.Breaks.{hyphenAt, inMargins, odd, levelBreak, breakBy, isBreak}
+use Rattle.hyphenation.specs.Breaks.{breakBy, isBreak, breakSheet, unlessListed, breakLooks}
+use Rattle.liang.specs.Breaks.{hyphenAt, inMargins, odd, levelBreak}
 use Rattle.table.specs.Table.{judgeTable, cellsOf, entriesOf}
 use Rattle.right.specs.Test.{judgeCheck}
 use Rattle.hyphenation.specs.Sheet.{written, bit}
 use Rattle.hyphenation.specs.Levels.{levelAt, wordLooks}
-use Rattle.hyphenation.specs.Breaks.{breakSheet, unlessListed, breakLooks}
 use Rattle.hyphenation.specs.Calls.{rootBase, judgeRoom, judgeMargins, judgeHyphenate, breaksSheet, breaksLooks, Breaks}
 use Rattle.hyphenation.specs.declared.Answer.the-variants as answers
 use Rattle.hyphenation.proofs.Rooms.{written-low}

@@ -19,7 +19,7 @@ use Rattle.lists.specs.Lists.{judgePatterns}
 use Rattle.liang.specs.Patterns.{patternsOf}
 use Rattle.right.specs.Test.{judgeCheck}
 use Rattle.acceptance.proofs.Theorems.{acceptance}
-use Rattle.acceptance.proofs.Lists.{good-sorted, good-patterns, good-levels}
+use Rattle.patterns.proofs.Good.{good-sorted, good-patterns, good-levels}
 use Rattle.fit.specs.Table.{Fit, NoRoom, Packed, firstFit}
 use Rattle.fitted.proofs.Fitted.{fitted}
 use Rattle.layout.specs.Bases.{cellsNeeded}

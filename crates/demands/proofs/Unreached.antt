@@ -16,7 +16,8 @@ use Rattle.words.specs.Words.{judgeWord, rowOf}
 use Rattle.lists.specs.Lists.{judgePatterns}
 use Rattle.lookup.specs.Find.{findEither}
 use Rattle.liang.specs.Patterns.{Pattern, patternsOf}
-use Rattle.liang.specs.Breaks.{levelBreak, isBreak}
+use Rattle.hyphenation.specs.Breaks.{isBreak, breakSheet, breakLooks}
+use Rattle.liang.specs.Breaks.{levelBreak}
 use Rattle.table.specs.Table.{headSize, cellSize, numberAt, cellCount, entryCount, formed, judgeTable, cellsOf, entriesOf}
 use Rattle.walk.specs.Walk.{settings}
 use Rattle.right.specs.Right.{Kinds, Right}
@@ -26,7 +27,6 @@ use Rattle.accepted.proofs.Unreached.{settings-alike, counts-alike, right-of}
 use Rattle.acceptance.proofs.Theorems.{test-tells}
 use Rattle.hyphenation.specs.Sheet.{bit}
 use Rattle.hyphenation.specs.Levels.{levelAt, levelSheet, wordLooks}
-use Rattle.hyphenation.specs.Breaks.{breakSheet, breakLooks}
 use Rattle.hyphenation.specs.Calls.{rootBase, judgeLevels, judgeHyphenate, answer, roomAfter, levelsAnswer, levelsRoom, breaksSheet, breaksLooks, breaksAnswer, breaksRoom}
 use Rattle.hyphenation.proofs.Rooms.{sheet-same}
 use Rattle.hyphenation.proofs.Calls.{levels-sizes, breaks-sizes}

@@ -12,17 +12,18 @@ use Rattle.words.specs.Words.{leading, wordGrounds, wordSymbols, rowOf, inner}
 use Rattle.lines.specs.Lines.{glue, cut, isNil, startsWith, anyOf, patternForm, goodPattern, exceptionForm, goodException}
 use Rattle.lines.specs.Order.{before}
 use Rattle.lists.specs.Lists.{goodLine, firstBad, judgeLines, patternGrounds, listGrounds}
-use Rattle.lookup.specs.Find.{same, findLine, find, findEither}
+use Rattle.base.specs.Tests.{same, allFrom}
+use Rattle.lookup.specs.Find.{findLine, find, findEither}
 use Rattle.liang.specs.Patterns.{levelsFrom, patternOf, patternsOf}
 use Rattle.liang.specs.Levels.{begins, levelHere, levelOf, highest, liang}
-use Rattle.liang.specs.Breaks.{hyphenAt, inMargins, odd, levelBreak, isBreak, badMargin}
+use Rattle.hyphenation.specs.Breaks.{isBreak, breakSheet, breakLooks}
+use Rattle.liang.specs.Breaks.{hyphenAt, inMargins, odd, levelBreak, badMargin}
 use Rattle.table.specs.Table.{numberAt, cellCount, entryCount, formed, tableGrounds, cellsOf, entriesOf, look, entryAt}
 use Rattle.walk.specs.Chain.{setting, chainStep, chainFrom, chain}
 use Rattle.walk.specs.Walk.{setStep, setFrom, lookStep, looksFrom, settings, looks}
 use Rattle.walk.specs.Raise.{highestSet}
 use Rattle.hyphenation.specs.Sheet.{sheetFrom, sheet, nonzero, bit}
 use Rattle.hyphenation.specs.Levels.{levelAt, levelSheet, wordLooks}
-use Rattle.hyphenation.specs.Breaks.{breakSheet, breakLooks}
 use Rattle.hyphenation.specs.Calls.{rootBase, roomGrounds, marginGrounds, levelsGrounds, hyphenateGrounds, foundOr, breaksSheet, breaksLooks}
 use Rattle.table.specs.declared.Look.{Look}
 use Rattle.table.specs.declared.Look.the-variants.{Hit, Miss}
@@ -30,7 +31,7 @@ use Rattle.patterns.specs.Common.{common}
 use Rattle.patterns.specs.Next.{nextIn}
 use Rattle.right.specs.Paths.{onward, along}
 use Rattle.right.specs.Right.{soundStep, soundFrom, sound}
-use Rattle.right.specs.Test.{allFrom, kindsFrom, exactTest, childAt, noneBetween, passedOver, followStep, follow, besides, patternsRight, rightTest, checkGrounds}
+use Rattle.right.specs.Test.{kindsFrom, exactTest, childAt, noneBetween, passedOver, followStep, follow, besides, patternsRight, rightTest, checkGrounds}
 use Rattle.fit.specs.Cells.{putNumber, isFree, serves, smallest, baseFor, inside, putCell, putCells, cellOf, putLink, placeAt, place, opens, placeLength, placeLengths, layoutOf, usedFrom}
 use Rattle.fit.specs.Entries.{holds, findEntry, putEntry, enterAt, enter, enterLevels, enterPattern, putOutput, outputOf, outputsOf}
 use Rattle.fit.specs.Table.{putKinds, Fit, NoRoom, Packed, bytesOf, finish, fitLayout, firstFit}

@@ -11,7 +11,7 @@ use Rattle.table.specs.Table.{cellKind, cellSize, numberAt}
 unfoldable pub use Rattle.table.specs.Table.{putNumber}
 use Rattle.patterns.specs.Common.{common}
 use Rattle.patterns.specs.Next.{nextIn}
-use Rattle.right.specs.Test.{allFrom}
+use Rattle.base.specs.Tests.{allFrom}
 
 unfoldable pub isFree : List ℕ → ℕ → Bool
 isFree bytes n = eqb (getD bytes (cellSize * n + 1) 0) 0

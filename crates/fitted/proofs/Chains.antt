@@ -17,7 +17,7 @@ use Rattle.walk.specs.Chain.{Setting, setting, chainStep, chainFrom, chain}
 use Rattle.walk.specs.Raise.{highestSet}
 use Rattle.walk.proofs.Laws.{chain-turn}
 use Rattle.right.specs.Right.{soundStep, soundFrom, sound}
-use Rattle.accepted.proofs.Strings.{both}
+use Rattle.base.proofs.Lists.{both}
 use Rattle.fit.specs.Cells.{putNumber}
 use Rattle.fit.specs.Entries.{holds, findEntry, putEntry, Entries, TooMany, Made, enterAt, enter, enterLevels}
 use Rattle.fitted.proofs.Bytes.{number-same, put-length, put-kept, put-high, put-low, put-read}

@@ -13,18 +13,16 @@ use Rattle.liang.specs.Patterns.{Pattern}
 use Rattle.liang.specs.Levels.{begins}
 use Rattle.table.specs.Table.{cellSize, entrySize, judgeTable, cellsOf, entriesOf}
 use Rattle.table.specs.declared.Look.the-variants.{Hit}
-use Rattle.right.specs.Paths.{along, Path, Beginning, nth}
+use Rattle.right.specs.Paths.{along, Path}
+use Rattle.patterns.specs.Strings.{Beginning, nth, Shaped, Sorted}
 use Rattle.right.specs.Right.{Exact, Right}
-use Rattle.accepted.specs.Shaped.{Shaped}
-use Rattle.accepted.proofs.Strings.{begins-self, begins-alphabet}
+use Rattle.patterns.proofs.Strings.{begins-self, begins-alphabet, _▸_, Ended, ended, snoc-length, alphabet-last, begins-length, begins-init, take-begins}
 use Rattle.fit.specs.Cells.{Layout, Full, Fits, layoutOf, usedFrom}
 use Rattle.fit.specs.Entries.{Outputs, Over, Out, outputsOf}
 use Rattle.fit.specs.Table.{Packed, putKinds, bytesOf, finish, fitLayout, firstFit}
 use Rattle.fitted.proofs.Bytes.{linkIn, outputIn}
-use Rattle.fitted.proofs.Strings.{_▸_, Ended, ended, snoc-length, alphabet-last}
 use Rattle.fitted.proofs.Nodes.{Node, node, Goes, Owned, Behind, cellBehind, Linked, along-goes, along-only}
-use Rattle.fitted.proofs.Together.{begins-short, begins-front, take-begins}
-use Rattle.fitted.proofs.Opened.{Sorted, goes-beginning, beginning-goes}
+use Rattle.fitted.proofs.Opened.{goes-beginning, beginning-goes}
 use Rattle.fitted.proofs.Passes.{Passing, PassingIn, layout-passed}
 use Rattle.fitted.proofs.Chains.{Entered, Runs, runs-kept, runs-exact}
 use Rattle.fitted.proofs.Outputs.{one-string, Issued, IssuedIn, Ready, outputs-from}
@@ -55,8 +53,8 @@ module _ (patterns : List Pattern) (sorted : Sorted patterns) (shaped : (i : ℕ
         go : Ended (x ∷ w) → Behind nodes (x ∷ w)
         go c =
             let whole : begins (c .front ▸ c .last) own ≡ true = subst (λ (u : List ℕ). begins u own ≡ true) (c .same) (b .stands) in
-            let front = begins-front (c .front) (c .last) own whole in
-            let size : length (c .front) < length own = omega (arith, begins-short (c .front ▸ c .last) own whole, snoc-length (c .front) (c .last)) in
+            let front = begins-init (c .front) (c .last ∷ []) own whole in
+            let size : length (c .front) < length own = omega (arith, begins-length (c .front ▸ c .last) own whole, snoc-length (c .front) (c .last)) in
             let p = placed .shorter (length (c .front)) (b .at) (omega (arith, size, shaped (b .at) (b .within) .short)) (b .within) size in
             let same = p .same ∙ take-begins (c .front) own front in
             let a = alphabet-last (c .front) (c .last) (begins-alphabet (c .front ▸ c .last) own whole (shaped (b .at) (b .within) .alphabet)) in
@@ -169,7 +167,7 @@ module _ (patterns : List Pattern) (sorted : Sorted patterns) (shaped : (i : ℕ
             reached = λ u b.
                 let w = beginning-behind u b in
                 record {
-                  short = omega (arith, begins-short u (nth patterns (b .at) .symbols) (b .stands), shaped (b .at) (b .within) .short);
+                  short = omega (arith, begins-length u (nth patterns (b .at) .symbols) (b .stands), shaped (b .at) (b .within) .short);
                   alphabet = begins-alphabet u (nth patterns (b .at) .symbols) (b .stands) (shaped (b .at) (b .within) .alphabet);
                   link = linkIn cellPart (cellBehind nodes u w);
                   output = outputIn after (cellBehind nodes u w);

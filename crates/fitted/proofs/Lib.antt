@@ -2,7 +2,6 @@ pub mod Bytes
 pub mod Strings
 pub mod Nodes
 pub mod Placing
-pub mod Together
 pub mod Opened
 pub mod Search
 pub mod Passes

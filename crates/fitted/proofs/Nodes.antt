@@ -14,10 +14,12 @@ use Rattle.table.specs.Table.{cellKind, cellSize, look}
 use Rattle.table.specs.declared.Look.{Look}
 use Rattle.table.specs.declared.Look.the-variants.{Hit, Miss}
 use Rattle.table.proofs.Laws.{look-hit}
-use Rattle.right.specs.Paths.{onward, along, allSymbols}
+use Rattle.right.specs.Paths.{onward, along}
+use Rattle.patterns.specs.Strings.{allSymbols}
 use Rattle.fit.specs.Cells.{cellOf}
 use Rattle.fitted.proofs.Bytes.{kindIn, symbolIn, linkIn, outputIn}
-use Rattle.fitted.proofs.Strings.{_▸_, Ended, ended, snoc-length, length-none, alphabet-last, cell-further, along-further, onward-hit, Onward, onward-from}
+use Rattle.patterns.proofs.Strings.{_▸_, Ended, ended, snoc-length, length-none, alphabet-last}
+use Rattle.fitted.proofs.Strings.{cell-further, along-further, onward-hit, Onward, onward-from}
 
 -- A path with continuations: its base, the test of the symbols that it goes on with, and the number of the pattern that opens it.
 pub record Node : Type 0 where

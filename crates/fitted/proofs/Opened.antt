@@ -1,7 +1,7 @@
 -- The nodes that a list's patterns open, and their continuations: those of the list.
 use Prim.Native.Nat.{ℕ, zero, suc, _+_, _-_, _≤_, _<_}
 use mathlib.Core.Bool.{Bool, true, false, not, _&&_}
-use mathlib.Core.List.{List, []}
+use mathlib.Core.List.{List, [], _∷_}
 use mathlib.Core.Path.{_≡_, refl, sym, _∙_, ap, subst}
 use native.Mathlib.Decide.{ℕ-discrete, decLt}
 use native.Mathlib.Omega.{arith}
@@ -11,20 +11,15 @@ use lib.ListN.{length, take, drop, length-drop}
 use lib.Seq.{getD-drop, length-take-le}
 use Rattle.base.specs.Limits.{symbols}
 use Rattle.base.proofs.Lists.{never}
-use Rattle.lines.specs.Order.{before}
 use Rattle.liang.specs.Patterns.{Pattern}
 use Rattle.liang.specs.Levels.{begins}
 use Rattle.patterns.specs.Common.{common}
-use Rattle.right.specs.Paths.{nth, noPattern, Beginning}
+use Rattle.patterns.specs.Strings.{nth, noPattern, Beginning, Sorted}
 use Rattle.patterns.specs.Next.{nextIn}
 use Rattle.fit.specs.Cells.{opens}
-use Rattle.fitted.proofs.Strings.{_▸_, snoc-length}
+use Rattle.patterns.proofs.Strings.{_▸_, snoc-length, begins-shared, begins-take, begins-length, begins-init}
 use Rattle.fitted.proofs.Nodes.{Node, Goes}
-use Rattle.fitted.proofs.Together.{between, goes-on, begins-shared, begins-take, begins-short, begins-front, next-sound, next-complete}
-
--- "symbols .. strictly ascend from line to line"
-abbrev pub Sorted : List Pattern → Type 0
-Sorted patterns = (i j : ℕ) → i < j → j < length patterns → before (nth patterns i .symbols) (nth patterns j .symbols) ≡ true
+use Rattle.patterns.proofs.Sorted.{begins-between, goes-on, next-sound, next-complete}
 
 -- A node that a pattern opens: the first of the list that goes on behind the node's path.
 pub record Opened (patterns : List Pattern) (n : Node) : Type 0 where
@@ -51,7 +46,7 @@ module _ (patterns : List Pattern) (n : Node) (opened : Opened patterns n) where
   beginning-goes sorted s h l b = go (decLt (b .at) (n .opener))
     where
       front : begins (n .path) (nth patterns (b .at) .symbols) ≡ true
-      front = begins-front (n .path) s (nth patterns (b .at) .symbols) (b .stands)
+      front = begins-init (n .path) (s ∷ []) (nth patterns (b .at) .symbols) (b .stands)
 
       moved : (i : ℕ) → nth (drop (n .opener) patterns) i ≡ nth patterns (n .opener + i)
       moved i = getD-drop (n .opener) patterns i noPattern
@@ -64,12 +59,12 @@ module _ (patterns : List Pattern) (n : Node) (opened : Opened patterns n) where
           of (yes e) d = subst (λ (i : ℕ). begins (n .path) (nth patterns i .symbols) ≡ true) e (opened .stands)
           of (no d) (yes e) = subst (λ (i : ℕ). begins (n .path) (nth patterns i .symbols) ≡ true) (sym e) front
           of (no d) (no e) =
-              between (n .path) (nth patterns (n .opener) .symbols) (nth patterns j .symbols) (nth patterns (b .at) .symbols) (opened .stands) front
+              begins-between (n .path) (nth patterns (n .opener) .symbols) (nth patterns j .symbols) (nth patterns (b .at) .symbols)
               (sorted (n .opener) j (omega arith) (omega (arith, b .within)))
-              (sorted j (b .at) (omega arith) (b .within))
+              (sorted j (b .at) (omega arith) (b .within)) (opened .stands) front
 
       go : Dec (b .at < n .opener) → Goes n s
-      go (yes k) = absurd (omega (arith, opened .first (b .at) k front, begins-short (n .path ▸ s) _ (b .stands), snoc-length (n .path) s))
+      go (yes k) = absurd (omega (arith, opened .first (b .at) k front, begins-length (n .path ▸ s) _ (b .stands), snoc-length (n .path) s))
       go (no k) =
           let at : n .opener + (b .at - n .opener) ≡ b .at = omega arith in
           let here : begins (n .path ▸ s) (nth (drop (n .opener) patterns) (b .at - n .opener) .symbols) ≡ true =
@@ -129,14 +124,14 @@ opens-first patterns sorted m (suc k) h e j l b = go (decLt m (length (nth patte
     clash c f = opens-says m (nth patterns k .symbols) own e .1 shared f
       where
         shared : m ≤ common (nth patterns k .symbols) own
-        shared = omega (arith, size, leb-true (length (take m own)) (common (nth patterns k .symbols) own) (begins-shared (take m own) (nth patterns k .symbols) own c ∙ begins-take m own))
+        shared = omega (arith, size, leb-true (length (take m own)) (common (nth patterns k .symbols) own) (sym (begins-shared (take m own) (nth patterns k .symbols) own c) ∙ begins-take m own))
 
     go : Dec (m < length (nth patterns j .symbols)) → Dec (j ≡ k) → length (nth patterns j .symbols) ≤ m
     go (no d) q = omega arith
     go (yes d) (yes q) =
         absurd (clash (subst (λ (i : ℕ). begins (take m own) (nth patterns i .symbols) ≡ true) q b) (subst (λ (i : ℕ). m < length (nth patterns i .symbols)) q d))
     go (yes d) (no q) =
-        let c = between (take m own) (nth patterns j .symbols) (nth patterns k .symbols) own b (begins-take m own)
-        (sorted j k (omega arith) (omega arith)) (sorted k (suc k) (omega arith) h) in
+        let c = begins-between (take m own) (nth patterns j .symbols) (nth patterns k .symbols) own
+        (sorted j k (omega arith) (omega arith)) (sorted k (suc k) (omega arith) h) b (begins-take m own) in
         let f = goes-on (take m own) (nth patterns j .symbols) (nth patterns k .symbols) b c (sorted j k (omega arith) (omega arith)) (omega (arith, size)) in
         absurd (clash c (omega (arith, f, size)))

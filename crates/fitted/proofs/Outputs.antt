@@ -7,11 +7,11 @@ use lib.ListN.{length, getD}
 use Rattle.base.specs.Limits.{levelLimit}
 use Rattle.table.specs.Table.{cellSize}
 use Rattle.liang.specs.Patterns.{Pattern}
-use Rattle.right.specs.Paths.{nth}
+use Rattle.patterns.specs.Strings.{nth}
 use Rattle.fit.specs.Cells.{putNumber, cellOf}
 use Rattle.fit.specs.Entries.{Entries, TooMany, Made, afresh, enterPattern, Outputs, Over, Out, putOutput, outputOf, outputsOf}
 use Rattle.fitted.proofs.Bytes.{kindIn, symbolIn, linkIn, outputIn, put-length, put-kept, put-apart, put-read}
-use Rattle.fitted.proofs.Strings.{_▸_}
+use Rattle.patterns.proofs.Strings.{_▸_}
 use Rattle.fitted.proofs.Nodes.{Node, node, Owned, Behind, cellBehind, Tree, Linked, one-owner, cell-of, owned-moved, linked-moved}
 use Rattle.fitted.proofs.Chains.{Entered, Kept, Runs, runs-kept, ChainedIn, levels-entered}
 

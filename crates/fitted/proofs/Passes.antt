@@ -14,18 +14,15 @@ use Rattle.liang.specs.Patterns.{Pattern}
 use Rattle.liang.specs.Levels.{begins}
 use Rattle.patterns.specs.Common.{common}
 use Rattle.table.specs.Table.{cellSize, numberAt}
-use Rattle.right.specs.Paths.{nth, noPattern}
+use Rattle.patterns.specs.Strings.{nth, noPattern, Shaped, Sorted}
 use Rattle.patterns.specs.Next.{nextIn}
-use Rattle.accepted.specs.Shaped.{Shaped}
-use Rattle.accepted.proofs.Strings.{begins-alphabet}
+use Rattle.patterns.proofs.Strings.{begins-alphabet, _▸_, snoc-length, length-none, alphabet-last, begins-take}
 use Rattle.fit.specs.Cells.{Layout, Full, Fits, serves, smallest, baseFor, inside, putCells, putLink, placeAt, place, opens, placeLength, placeLengths, layoutOf}
 use Rattle.fitted.proofs.Bytes.{symbolIn}
-use Rattle.fitted.proofs.Strings.{_▸_, snoc-length, length-none, alphabet-last}
 use Rattle.fitted.proofs.Nodes.{Node, node, Goes, Placed, Behind}
 use Rattle.fitted.proofs.Placing.{Laid, Fitting, laid-more}
-use Rattle.fitted.proofs.Together.{begins-take}
 use Rattle.fitted.proofs.Search.{Smallest, smallest-found, serves-says, inside-says}
-use Rattle.fitted.proofs.Opened.{Sorted, Opened, beginning-goes, above, opens-says, opens-not, opens-first}
+use Rattle.fitted.proofs.Opened.{Opened, beginning-goes, above, opens-says, opens-not, opens-first}
 
 -- Within the pass for paths of m symbols, before pattern k: what is placed, and that it is all that had to be.
 pub record Passing (patterns : List Pattern) (m k : ℕ) (nodes : List Node) (bytes taken : List ℕ) : Type 0 where

@@ -12,7 +12,7 @@ use Rattle.base.proofs.Lists.{never}
 use Rattle.table.specs.Table.{cellSize}
 use Rattle.fit.specs.Cells.{putNumber, putCell, putCells, cellOf, putLink}
 use Rattle.fitted.proofs.Bytes.{kindIn, symbolIn, linkIn, outputIn, put-length, put-kept, put-apart, put-read, cell-length, cell-kept, cell-symbol, cell-kind, cell-numbers}
-use Rattle.fitted.proofs.Strings.{_▸_, snoc-length}
+use Rattle.patterns.proofs.Strings.{_▸_, snoc-length}
 use Rattle.fitted.proofs.Nodes.{Node, node, Goes, Holds, Owner, Owned, Behind, cellBehind, Tree, Linked, one-owner, cell-of, owned-moved, linked-moved}
 
 -- the cells of a node's continuations, n symbols from s on

@@ -9,9 +9,8 @@ use borrow.Author.Tests.{eqb-true, ltb-true}
 use lib.Dec.{eqb}
 use lib.ListN.{getD}
 use Rattle.base.specs.Limits.{symbols, cells}
-use Rattle.base.proofs.Lists.{never}
-use Rattle.right.specs.Test.{allFrom}
-use Rattle.accepted.proofs.Strings.{both}
+use Rattle.base.proofs.Lists.{never, both}
+use Rattle.base.specs.Tests.{allFrom}
 use Rattle.fit.specs.Cells.{isFree, serves, smallest, inside}
 use Rattle.fitted.proofs.Bytes.{symbolIn}
 

@@ -1,58 +1,18 @@
--- Strings taken apart at their end, and walks that go one symbol further.
-use Prim.Native.Nat.{ℕ, suc, _+_, _≤_}
-use mathlib.Core.Bool.{Bool, true, false, cond, _&&_}
-use mathlib.Core.List.{List, [], _∷_, _++_}
+-- Walks that go one symbol further.
+use Prim.Native.Nat.{ℕ, _+_}
+use mathlib.Core.Bool.{Bool, true, false, cond}
+use mathlib.Core.List.{List, [], _∷_}
 use mathlib.Core.Path.{_≡_, refl, _∙_, ap}
 use native.Mathlib.Omega.{arith}
-use borrow.Author.Tests.{leb-true, eqb-true, eqb-false}
-use lib.Dec.{leb, eqb}
-use lib.ListN.{length, length-append}
-use Rattle.base.specs.Limits.{symbols}
-use Rattle.base.proofs.Lists.{never}
+use borrow.Author.Tests.{eqb-true, eqb-false}
+use lib.Dec.{eqb}
 use Rattle.table.specs.Table.{look}
 use Rattle.table.specs.declared.Look.{Look}
 use Rattle.table.specs.declared.Look.the-variants.{Hit, Miss}
-use Rattle.right.specs.Paths.{onward, along, allSymbols}
+use Rattle.right.specs.Paths.{onward, along}
 use Rattle.fit.specs.Cells.{cellOf}
+use Rattle.patterns.proofs.Strings.{_▸_}
 use Rattle.fitted.proofs.Bytes.{linkIn}
-
--- a string with one symbol more
-infixl 25 _▸_
-abbrev pub _▸_ : List ℕ → ℕ → List ℕ
-u ▸ s = u ++ (s ∷ [])
-
--- a string with its last symbol apart
-pub record Ended (u : List ℕ) : Type 0 where
-  pub front : List ℕ
-  pub last : ℕ
-  pub same : u ≡ front ▸ last
-
-pub ended : (x : ℕ) (u : List ℕ) → Ended (x ∷ u)
-ended x [] = record { front = []; last = x; same = refl }
-ended x (y ∷ u) = let e = ended y u in record { front = x ∷ e .front; last = e .last; same = ap (λ (v : List ℕ). x ∷ v) (e .same) }
-
-pub snoc-length : (u : List ℕ) (s : ℕ) → length (u ▸ s) ≡ suc (length u)
-snoc-length u s = length-append u (s ∷ []) ∙ omega arith
-
-pub length-none : (u : List ℕ) → length u ≤ 0 → u ≡ []
-length-none [] h = refl
-length-none (x ∷ u) h = absurd (omega arith)
-
--- the last symbol of a string is one, and so are those before it
-pub alphabet-last : (u : List ℕ) (s : ℕ) → allSymbols (u ▸ s) ≡ true → (1 ≤ s) × (s ≤ symbols) × (allSymbols u ≡ true)
-unfolding allSymbols
-alphabet-last [] s a = go (leb 1 s) refl (leb s symbols) refl a
-  where
-    go : (x : Bool) → leb 1 s ≡ x → (y : Bool) → leb s symbols ≡ y → ((x && y) && true) ≡ true → (1 ≤ s) × (s ≤ symbols) × (true ≡ true)
-    go true p true q e = (leb-true 1 s p, leb-true s symbols q, refl)
-    go true p false q e = never e
-    go false p y q e = never e
-alphabet-last (x ∷ u) s a = go (leb 1 x && leb x symbols) a (alphabet-last u s)
-  where
-    go : (z : Bool) → (z && allSymbols (u ▸ s)) ≡ true → (allSymbols (u ▸ s) ≡ true → (1 ≤ s) × (s ≤ symbols) × (allSymbols u ≡ true))
-        → (1 ≤ s) × (s ≤ symbols) × ((z && allSymbols u) ≡ true)
-    go true e next = next e
-    go false e next = never e
 
 -- the cell behind a string's next to last one
 pub cell-further : (bytes u : List ℕ) (base x s : ℕ) → cellOf bytes base ((u ▸ x) ▸ s) ≡ linkIn bytes (cellOf bytes base (u ▸ x)) + s

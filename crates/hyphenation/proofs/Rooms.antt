@@ -15,7 +15,8 @@ use Rattle.words.specs.Words.{rowOf, inner}
 use Rattle.lookup.specs.Find.{findEither}
 use Rattle.lookup.specs.declared.Located.{Located}
 use Rattle.lookup.specs.declared.Located.the-variants.{Customer, House, Nowhere}
-use Rattle.liang.specs.Breaks.{hyphenAt, levelBreak, breakBy, isBreak}
+use Rattle.hyphenation.specs.Breaks.{breakBy, isBreak, mark, breakSheet, unlessListed, breakLooks}
+use Rattle.liang.specs.Breaks.{hyphenAt, levelBreak}
 use Rattle.walk.specs.Chain.{Setting}
 use Rattle.walk.specs.Walk.{settings}
 use Rattle.walk.specs.Raise.{raiseAll}
@@ -24,7 +25,6 @@ use Rattle.walk.proofs.Laws.{raises-length}
 use Rattle.walk.proofs.Raised.{raised-at}
 use Rattle.hyphenation.specs.Sheet.{sheetFrom, sheet, written, bit}
 use Rattle.hyphenation.specs.Levels.{levelAt, levelSheet, wordLooks}
-use Rattle.hyphenation.specs.Breaks.{mark, breakSheet, unlessListed, breakLooks}
 use Rattle.hyphenation.specs.Post.{Done, lineSheet, oddSheet, Inside}
 use Rattle.hyphenation.proofs.Laws.{sheet-length, sheet-at, break-left, break-right, break-outer}
 

@@ -19,13 +19,13 @@ use Rattle.lookup.specs.declared.Found.{Found}
 use Rattle.lookup.specs.declared.Found.the-variants.{At, Nothing}
 use Rattle.lookup.specs.declared.Located.{Located}
 use Rattle.lookup.specs.declared.Located.the-variants.{Customer, House, Nowhere}
-use Rattle.liang.specs.Breaks.{levelBreak, breakBy, isBreak}
+use Rattle.hyphenation.specs.Breaks.{breakBy, isBreak, breakSheet, unlessListed, breakLooks}
+use Rattle.liang.specs.Breaks.{levelBreak}
 use Rattle.table.specs.Table.{judgeTable, cellsOf, entriesOf}
 use Rattle.walk.specs.Walk.{looks}
 use Rattle.walk.proofs.Count.{looks-few}
 use Rattle.hyphenation.specs.Sheet.{sheet, nonzero, bit}
 use Rattle.hyphenation.specs.Levels.{levelAt, levelSheet, wordLooks}
-use Rattle.hyphenation.specs.Breaks.{breakSheet, unlessListed, breakLooks}
 use Rattle.hyphenation.specs.Calls.{rootBase, judgeRoom, judgeMargins, judgeLevels, judgeHyphenate, judgeWordAlone, answer, Levels, Breaks, WordBreaks}
 use Rattle.hyphenation.proofs.Rooms.{sheet-same}
 use Rattle.hyphenation.proofs.Order.{levels-ordered, hyphenate-ordered, word-alone-ordered, promised, computed}

@@ -1,17 +1,29 @@
 -- The breaks of a word over a table, and their count of looks.
 use Prim.Native.Nat.{ℕ, _+_}
-use mathlib.Core.Bool.{cond}
+use mathlib.Core.Bool.{Bool, cond}
 use mathlib.Core.List.{List, [], _∷_}
 use lib.Dec.{ltb, eqb}
-use lib.ListN.{set}
+use lib.ListN.{length, set}
 use Rattle.base.specs.Limits.{roomSize}
 use Rattle.words.specs.Symbols.{hyphen}
 use Rattle.lookup.specs.Find.{findEither}
 use Rattle.lookup.specs.declared.Located.{Located}
 use Rattle.lookup.specs.declared.Located.the-variants.{Customer, House, Nowhere}
-use Rattle.liang.specs.Breaks.{isBreak}
+use Rattle.lookup.specs.Lookup.{lineOf}
+use Rattle.liang.specs.Breaks.{hyphenAt, levelBreak}
 use Rattle.hyphenation.specs.Sheet.{sheet, bit}
 use Rattle.hyphenation.specs.Levels.{levelAt, wordLooks}
+
+-- "if the word is in the customer's list, that line's hyphens; else those of its house line; else" the levels'. "An exception
+-- line stands whole, whatever the margins."
+abbrev pub breakBy : Located → List ℕ → List ℕ → (ℕ → Bool) → ℕ → Bool
+breakBy (Customer start end) customer house byLevel i = hyphenAt (lineOf customer house (Customer start end)) i
+breakBy (House start end) customer house byLevel i = hyphenAt (lineOf customer house (House start end)) i
+breakBy Nowhere customer house byLevel i = byLevel i
+
+unfoldable pub isBreak : ℕ → ℕ → List ℕ → List ℕ → (ℕ → ℕ) → List ℕ → ℕ → Bool
+isBreak left right customer house level word i =
+    breakBy (findEither word customer house) customer house (levelBreak left right (length word) level) i
 
 -- "byte i of the room is 1 if gap i is a break, the other bytes up to 63 are 0"
 unfoldable pub breakSheet : ℕ → ℕ → List ℕ → List ℕ → List ℕ → List ℕ → ℕ → List ℕ → List ℕ

@@ -14,11 +14,8 @@ use Rattle.lines.specs.Order.{before}
 use Rattle.lines.proofs.Order.{before-trans, before-self}
 use Rattle.liang.specs.Patterns.{Pattern}
 use Rattle.liang.specs.Levels.{begins}
-use Rattle.right.specs.Paths.{nth}
-use Rattle.accepted.specs.Shaped.{Shaped}
-use Rattle.accepted.proofs.Strings.{begins-cons, begins-more}
-use Rattle.fitted.proofs.Strings.{_▸_}
-use Rattle.fitted.proofs.Opened.{Sorted}
+use Rattle.patterns.specs.Strings.{nth, Shaped, Sorted}
+use Rattle.patterns.proofs.Strings.{begins-cons, begins-more, _▸_}
 use Rattle.layout.specs.Bases.{Based, goesOn, usedBy, usesCell, leastBase, nextBase, pathsOf, placeAll, basesOf}
 use Rattle.layout.specs.FirstFit.{root, based, Ascends, Least, FirstFit}
 use Rattle.layout.proofs.Nodes.{goes-says, line-goes, Symbolic, symbolic, based-has, Uses, used-says, based-uses}

@@ -8,22 +8,18 @@ use native.Mathlib.Decide.{ℕ-discrete}
 use native.Mathlib.Omega.{arith}
 use lib.ListN.{length, replicate}
 use Rattle.base.specs.Limits.{patternLimit, cells, entries}
-use Rattle.base.proofs.Lists.{never}
+use Rattle.base.proofs.Lists.{never, same-true, same-self}
 use Rattle.lines.specs.Order.{before}
 use Rattle.lines.proofs.Order.{before-self}
-use Rattle.lookup.specs.Find.{same}
-use Rattle.lookup.proofs.Theorems.{same-true, same-self}
+use Rattle.base.specs.Tests.{same}
 use Rattle.liang.specs.Patterns.{Pattern}
-use Rattle.right.specs.Paths.{nth}
+use Rattle.patterns.specs.Strings.{nth, Shaped, Sorted}
 use Rattle.table.specs.Table.{entrySize}
-use Rattle.accepted.specs.Shaped.{Shaped}
-use Rattle.accepted.proofs.Strings.{Found, search-pattern}
+use Rattle.patterns.proofs.Strings.{Found, search-pattern, _▸_}
 use Rattle.fit.specs.Cells.{usedFrom}
 use Rattle.fit.specs.Entries.{Over, Out, outputsOf}
 use Rattle.fitted.proofs.Bytes.{symbolIn, linkIn, outputIn}
-use Rattle.fitted.proofs.Strings.{_▸_}
 use Rattle.fitted.proofs.Nodes.{Node, node, Goes, Behind, Placed, search-node}
-use Rattle.fitted.proofs.Opened.{Sorted}
 use Rattle.fitted.proofs.Passes.{Passing}
 use Rattle.fitted.proofs.Outputs.{one-string, Issued}
 use Rattle.fitted.proofs.Finished.{Top, used-range, used-top}

@@ -10,10 +10,10 @@ use lib.Dec.{ltb, eqb}
 use lib.ListN.{length, getD, replicate, length-replicate, length-append, List·getD-append}
 use lib.Seq.{getD-append-seam}
 use Rattle.base.specs.Limits.{entries}
-use Rattle.lookup.specs.Find.{same}
-use Rattle.lookup.proofs.Theorems.{same-true, same-self}
+use Rattle.base.specs.Tests.{same}
+use Rattle.base.proofs.Lists.{same-true, same-self}
 use Rattle.liang.specs.Patterns.{Pattern}
-use Rattle.right.specs.Paths.{nth}
+use Rattle.patterns.specs.Strings.{nth}
 use Rattle.table.specs.Table.{entryKind, entrySize, numberAt}
 use Rattle.fit.specs.Entries.{holds, findEntry, putEntry, Entries, TooMany, Made, enterAt, enter, enterLevels, afresh, enterPattern, Outputs, Over, Out, putOutput, outputOf, outputsOf}
 use Rattle.fitted.proofs.Chains.{entry-length, entry-kept, entry-kind, entry-distance, entry-level, entry-high, entry-low}

@@ -10,7 +10,7 @@ use lib.Seq.{set-out, getD-set-same, getD-set-other}
 use Rattle.base.specs.Limits.{symbols, cells}
 use Rattle.liang.specs.Patterns.{Pattern}
 use Rattle.patterns.specs.Next.{nextIn}
-use Rattle.right.specs.Paths.{nth}
+use Rattle.patterns.specs.Strings.{nth}
 use Rattle.table.specs.Table.{cellSize, numberAt}
 use Rattle.fit.specs.Cells.{putNumber, baseFor, inside, putCell, putCells, cellOf, putLink, Layout, Full, Fits, placeAt, place, opens, layoutOf}
 use Rattle.fit.specs.Entries.{Entries, TooMany, Made, enterPattern, Outputs, Over, Out, putOutput, outputOf, outputsOf}

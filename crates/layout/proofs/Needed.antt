@@ -13,7 +13,7 @@ use lib.Seq.{getD-append-seam}
 use Rattle.base.specs.Limits.{symbols, cells}
 use Rattle.base.proofs.Lists.{never}
 use Rattle.liang.specs.Patterns.{Pattern}
-use Rattle.right.specs.Test.{allFrom}
+use Rattle.base.specs.Tests.{allFrom}
 use Rattle.fit.specs.Cells.{inside}
 use Rattle.layout.specs.Bases.{Based, goesOn, usedBy, usesCell, topFrom, topOf}
 use Rattle.layout.specs.FirstFit.{root, based}

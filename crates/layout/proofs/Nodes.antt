@@ -10,19 +10,17 @@ use lib.Dec.{ltb, eqb}
 use lib.ListN.{length, getD, length-append, List·getD-append}
 use lib.Seq.{getD-append-seam}
 use Rattle.base.specs.Limits.{symbols}
-use Rattle.base.proofs.Lists.{never}
+use Rattle.base.proofs.Lists.{never, both}
 use Rattle.liang.specs.Patterns.{Pattern}
 use Rattle.liang.specs.Levels.{begins}
-use Rattle.right.specs.Paths.{Beginning, nth}
-use Rattle.right.proofs.All.{all-same}
-use Rattle.accepted.specs.Shaped.{Shaped}
-use Rattle.accepted.proofs.Strings.{both, begins-alphabet}
+use Rattle.patterns.specs.Strings.{Beginning, nth, Shaped, Sorted}
+use Rattle.base.proofs.All.{all-same}
+use Rattle.patterns.proofs.Strings.{begins-alphabet, _▸_, snoc-length, alphabet-last}
 use Rattle.fit.specs.Cells.{isFree, serves}
 use Rattle.fitted.proofs.Bytes.{symbolIn}
-use Rattle.fitted.proofs.Strings.{_▸_, snoc-length, alphabet-last}
 use Rattle.fitted.proofs.Nodes.{Node, node, Goes}
 use Rattle.fitted.proofs.Placing.{Laid}
-use Rattle.fitted.proofs.Opened.{Opened, Sorted, goes-beginning, beginning-goes}
+use Rattle.fitted.proofs.Opened.{Opened, goes-beginning, beginning-goes}
 use Rattle.layout.specs.Bases.{Based, goesOn, hasBase, usedBy, usesCell, fitsAt}
 use Rattle.layout.specs.FirstFit.{root, based}
 

@@ -9,14 +9,12 @@ use lib.Dec.{ltb}
 use lib.ListN.{length, getD, replicate}
 use Rattle.base.specs.Limits.{levelLimit, patternLimit, cells, entries}
 use Rattle.liang.specs.Patterns.{Pattern}
-use Rattle.right.specs.Paths.{nth}
+use Rattle.patterns.specs.Strings.{nth, Shaped, Sorted}
 use Rattle.table.specs.Table.{entrySize}
-use Rattle.accepted.specs.Shaped.{Shaped}
 use Rattle.fit.specs.Cells.{Layout, Full, Fits, layoutOf, usedFrom}
 use Rattle.fit.specs.Entries.{Outputs, Over, Out, outputsOf}
 use Rattle.fit.specs.Table.{Fit, NoRoom, Packed, finish, fitLayout, firstFit}
 use Rattle.fitted.proofs.Nodes.{Node}
-use Rattle.fitted.proofs.Opened.{Sorted}
 use Rattle.fitted.proofs.Passes.{Passing}
 use Rattle.fitted.proofs.Outputs.{IssuedIn}
 use Rattle.fitted.proofs.Finished.{used-range}

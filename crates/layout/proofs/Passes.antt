@@ -15,13 +15,12 @@ use Rattle.lines.specs.Lines.{isNil}
 use Rattle.liang.specs.Patterns.{Pattern}
 use Rattle.patterns.specs.Next.{nextIn}
 use Rattle.table.specs.Table.{cellSize}
-use Rattle.right.specs.Paths.{nth, noPattern}
-use Rattle.accepted.specs.Shaped.{Shaped}
-use Rattle.accepted.proofs.Strings.{most-all}
+use Rattle.patterns.specs.Strings.{nth, noPattern, Shaped, Sorted}
+use Rattle.patterns.proofs.Strings.{most-all}
 use Rattle.fit.specs.Cells.{Layout, Full, Fits, serves, smallest, baseFor, inside, putCells, putLink, placeAt, place, opens, layoutOf}
 use Rattle.fitted.proofs.Nodes.{Node}
 use Rattle.fitted.proofs.Search.{inside-says}
-use Rattle.fitted.proofs.Opened.{Sorted, goes-beginning, beginning-goes, above}
+use Rattle.fitted.proofs.Opened.{goes-beginning, beginning-goes, above}
 use Rattle.fitted.proofs.Passes.{Passing, size, new-opened, own-goes, place-inside, place-none, next-pass, passing-start, layout-kept}
 use Rattle.layout.specs.Bases.{Based, goesOn, fitsAt, leastBase, nextBase, pathsAt, pathsFrom, longest, pathsOf, placeAll, basesOf, topOf, cellsNeeded}
 use Rattle.layout.proofs.Nodes.{goes-says, says-goes, symbolic, basedOf, Paired, paired-none, paired-more, same-fit}

@@ -15,12 +15,10 @@ use Rattle.lines.specs.Order.{before}
 use Rattle.lines.proofs.Order.{first-differs}
 use Rattle.liang.specs.Patterns.{Pattern}
 use Rattle.liang.specs.Levels.{begins}
-use Rattle.right.specs.Paths.{nth, noPattern}
-use Rattle.accepted.proofs.Strings.{most-each}
+use Rattle.patterns.specs.Strings.{nth, noPattern, Sorted}
+use Rattle.patterns.proofs.Strings.{most-each, _▸_, snoc-length, begins-take, begins-length, take-begins, begins-init}
 use Rattle.fit.specs.Cells.{opens}
-use Rattle.fitted.proofs.Strings.{_▸_, snoc-length}
-use Rattle.fitted.proofs.Together.{begins-take, begins-short, take-begins, begins-front}
-use Rattle.fitted.proofs.Opened.{Sorted, above, opens-says, opens-not, opens-first}
+use Rattle.fitted.proofs.Opened.{above, opens-says, opens-not, opens-first}
 use Rattle.fitted.proofs.Passes.{take-common}
 use Rattle.layout.specs.Bases.{goesOn, pathsAt, pathsFrom, longest, pathsOf}
 use Rattle.layout.specs.FirstFit.{Ascends}
@@ -257,7 +255,7 @@ module _ (patterns : List Pattern) (sorted : Sorted patterns) where
   unfolding pathsOf
   paths-every u s e =
       let b = goes-says patterns u s e in
-      let l : length u < length (own (b .at)) = omega (arith, begins-short (u ▸ s) (own (b .at)) (b .stands), snoc-length u s) in
-      let t = take-begins u (own (b .at)) (begins-front u s (own (b .at)) (b .stands)) in
+      let l : length u < length (own (b .at)) = omega (arith, begins-length (u ▸ s) (own (b .at)) (b .stands), snoc-length u s) in
+      let t = take-begins u (own (b .at)) (begins-init u (s ∷ []) (own (b .at)) (b .stands)) in
       lengths-listed (longest patterns) 0 (length u) u (omega arith) (omega (arith, l, longest-each (b .at) (b .within)))
       (subst (Listed (pathsAt (length u) [] patterns)) t (at-listed (length u) (b .at) (b .within) l))

@@ -8,10 +8,9 @@ use native.Mathlib.Omega.{arith}
 use borrow.Author.Tests.{ne-eqb, not-true}
 use lib.Dec.{ltb}
 use Rattle.base.specs.Limits.{symbols}
-use Rattle.base.proofs.Lists.{never}
+use Rattle.base.proofs.Lists.{never, both}
 use Rattle.liang.specs.Patterns.{Pattern}
-use Rattle.right.proofs.All.{each-all}
-use Rattle.accepted.proofs.Strings.{both}
+use Rattle.base.proofs.All.{each-all}
 use Rattle.fit.specs.Cells.{smallest}
 use Rattle.fitted.proofs.Search.{all-at, Smallest, smallest-found, wanted}
 use Rattle.layout.specs.Bases.{Based, goesOn, hasBase, usedBy, usesCell, fitsAt, reach, leastBase}

@@ -9,7 +9,7 @@ use Rattle.base.specs.Limits.{cells}
 use Rattle.liang.specs.Patterns.{Pattern}
 use Rattle.table.specs.Table.{cellSize, entrySize}
 use Rattle.fit.specs.Table.{putKinds, bytesOf}
-use Rattle.fitted.proofs.Strings.{length-none}
+use Rattle.patterns.proofs.Strings.{length-none}
 use Rattle.fitted.proofs.Finished.{cut-length, cut-at, cut-kind}
 use Rattle.layout.specs.Bases.{Based, basesOf, cellsNeeded}
 use Rattle.layout.specs.Entries.{Entry, Entering, entryList, entriesNeeded}

@@ -1,5 +1,5 @@
 -- First fit: what the layout is, and that the packer's definition is it. The list is sorted and its patterns are those of good lines,
--- as `acceptance.proofs.Lists` shows of every good text.
+-- as `patterns.proofs.Good` shows of every good text.
 use Prim.Native.Nat.{ℕ, suc, _≤_, _<_}
 use mathlib.Core.Bool.{Bool, true, false, cond, _||_}
 use mathlib.Core.List.{List, [], _∷_}
@@ -12,11 +12,9 @@ use lib.ListN.{length, getD, take}
 use Rattle.base.specs.Limits.{levelLimit, cells, entries}
 use Rattle.liang.specs.Patterns.{Pattern}
 use Rattle.liang.specs.Levels.{begins}
-use Rattle.right.specs.Paths.{nth}
-use Rattle.accepted.specs.Shaped.{Shaped}
-use Rattle.accepted.proofs.Strings.{begins-more}
+use Rattle.patterns.specs.Strings.{nth, Shaped, Sorted}
+use Rattle.patterns.proofs.Strings.{begins-more}
 use Rattle.fit.specs.Table.{NoRoom, Packed, firstFit}
-use Rattle.fitted.proofs.Opened.{Sorted}
 use Rattle.layout.specs.Bases.{Based, goesOn, usedBy, usesCell, fitsAt, leastBase, basesOf, cellsNeeded}
 use Rattle.layout.specs.FirstFit.{root, based, Ascends, Least, FirstFit}
 use Rattle.layout.specs.Entries.{entriesNeeded}

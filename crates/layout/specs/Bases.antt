@@ -9,7 +9,7 @@ use Rattle.base.specs.Limits.{symbols}
 use Rattle.lines.specs.Lines.{isNil}
 use Rattle.liang.specs.Patterns.{Pattern}
 use Rattle.liang.specs.Levels.{begins}
-use Rattle.right.specs.Test.{allFrom}
+use Rattle.base.specs.Tests.{allFrom}
 use Rattle.fit.specs.Cells.{smallest, opens}
 
 -- A path that goes on, with its base.

@@ -4,7 +4,7 @@ use mathlib.Core.Bool.{Bool, cond, _&&_}
 use mathlib.Core.List.{List, [], _∷_, _++_}
 use lib.Dec.{eqb}
 use lib.ListN.{length, getD}
-use Rattle.lookup.specs.Find.{same}
+use Rattle.base.specs.Tests.{same}
 use Rattle.liang.specs.Patterns.{Pattern}
 
 -- "distance, level, next"

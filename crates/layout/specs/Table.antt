@@ -2,7 +2,7 @@
 use Prim.Native.Nat.{ℕ, zero, suc, _-_, _/_, _%_}
 use mathlib.Core.Bool.{cond}
 use mathlib.Core.List.{List, [], _∷_, _++_}
-use Rattle.lookup.specs.Find.{same}
+use Rattle.base.specs.Tests.{same}
 use Rattle.liang.specs.Patterns.{Pattern}
 use Rattle.table.specs.Table.{headKind, edition, cellKind, entryKind}
 use Rattle.layout.specs.Bases.{Based, usedBy, basesOf, cellsNeeded}

@@ -1,12 +1,12 @@
 -- Laws about finding a line: one for each way through the code.
 use Prim.Native.Nat.{ℕ, suc, _+_, _-_, _≤_, _<_}
-use mathlib.Core.Bool.{Bool, true, false, cond, _&&_}
+use mathlib.Core.Bool.{Bool, true, false, cond}
 use mathlib.Core.List.{List, [], _∷_}
-use mathlib.Core.Path.{_≡_, refl, sym, _∙_, ap}
+use mathlib.Core.Path.{_≡_, refl, sym, _∙_}
 use native.Mathlib.Omega.{arith}
 use borrow.Author.Tests.{eq-eqb, ne-eqb, eqb-true, eqb-false}
 use lib.Dec.{eqb}
-use lib.ListN.{length, getD, take, drop, length-drop, drop-of-length-le}
+use lib.ListN.{length, getD, take, drop, drop-of-length-le}
 use Rattle.base.specs.Limits.{wordLimit}
 use Rattle.base.specs.declared.Check.{Check}
 use Rattle.base.specs.declared.Check.the-variants.{Fine, Refused}
@@ -14,11 +14,12 @@ use Rattle.base.specs.declared.Ground.{Ground}
 use Rattle.base.proofs.Lists.{cons-at}
 use Rattle.words.specs.Symbols.{feed, lower, symbolOf, symbolsOf}
 use Rattle.words.specs.Words.{judgeWord, wordSymbols}
-use Rattle.words.proofs.Laws.{symbols-skip, symbols-keep}
+use Rattle.words.proofs.Laws.{symbols-skip}
 use Rattle.lines.specs.Lines.{cut, glue, lineLength}
-use Rattle.lines.proofs.Laws.{cut-line, line-size, line-starts, line-ends}
+use Rattle.lines.proofs.Laws.{cut-line, line-size, line-starts}
 use Rattle.lists.specs.Lists.{judgeLists}
-use Rattle.lookup.specs.Find.{same, findLine, find, ownFirst, findEither}
+use Rattle.base.specs.Tests.{same}
+use Rattle.lookup.specs.Find.{findLine, find, ownFirst, findEither}
 use Rattle.lookup.specs.Lookup.{judgeLookup, unlessRefused, locate}
 use Rattle.lookup.specs.declared.Found.{Found}
 use Rattle.lookup.specs.declared.Found.the-variants.{At, Nothing}

@@ -1,12 +1,11 @@
 -- A listed word is found and an unlisted one is not, whatever the case of its letters.
 use Prim.Native.Nat.{ℕ, zero, suc, _+_, _-_, _≤_, _<_}
-use mathlib.Core.Bool.{Bool, true, false, cond, _&&_}
+use mathlib.Core.Bool.{Bool, true, false, cond}
 use mathlib.Core.List.{List, [], _∷_, _++_, map, List-discrete}
 use mathlib.Core.Logic.{_⊎_, inl, inr}
-use mathlib.Core.Path.{_≡_, refl, sym, _∙_, ap, ap₂}
+use mathlib.Core.Path.{_≡_, refl, sym, _∙_, ap}
 use native.Mathlib.Decide.{ℕ-discrete}
 use native.Mathlib.Omega.{arith}
-use borrow.Author.Tests.{eqb-true, eq-eqb}
 use lib.Dec.{eqb}
 use lib.ListN.{length, getD, take, drop}
 use lib.Seq.{take-append-le, drop-append-add}
@@ -14,7 +13,7 @@ use Rattle.base.specs.Limits.{wordLimit, exceptionText, customerList, houseList
 use Rattle.base.specs.Grounds.{first}
 use Rattle.base.specs.declared.Check.{Check}
 use Rattle.base.specs.declared.Check.the-variants.{Fine, Refused}
-use Rattle.base.proofs.Lists.{never}
+use Rattle.base.proofs.Lists.{same-true, same-self}
 use Rattle.words.specs.Symbols.{feed, lower, symbolsOf}
 use Rattle.words.specs.Words.{judgeWord, wordSymbols}
 use Rattle.words.proofs.Theorems.{same-judgement, same-symbols}
@@ -24,27 +23,12 @@ use Rattle.lists.specs.declared.Form.the-variants.{Exceptions}
 use Rattle.lists.specs.declared.Lines.{Lines}
 use Rattle.lists.specs.declared.Lines.the-variants.{Good, BadAt}
 use Rattle.lists.proofs.Theorems.{at-most-once}
-use Rattle.lookup.specs.Find.{same, findLine, find, findEither}
+use Rattle.base.specs.Tests.{same}
+use Rattle.lookup.specs.Find.{findLine, find, findEither}
 use Rattle.lookup.specs.Listed.{Listed, shown}
 use Rattle.lookup.specs.Lookup.{judgeLookup, locate, lineOf}
 use Rattle.lookup.specs.declared.Found.the-variants.{At, Nothing}
 use Rattle.lookup.specs.declared.Located.the-variants.{Nowhere}
-
-pub same-true : (a b : List ℕ) → same a b ≡ true → a ≡ b
-unfolding same
-same-true [] [] e = refl
-same-true [] (y ∷ ys) e = never e
-same-true (x ∷ xs) [] e = never e
-same-true (x ∷ xs) (y ∷ ys) e = go (eqb x y) refl e (same-true xs ys)
-  where
-    go : (z : Bool) → eqb x y ≡ z → (z && same xs ys) ≡ true → (same xs ys ≡ true → xs ≡ ys) → x ∷ xs ≡ y ∷ ys
-    go true p q next = ap₂ (λ (a : ℕ) (l : List ℕ). a ∷ l) (eqb-true x y p) (next q)
-    go false p q next = never q
-
-pub same-self : (a : List ℕ) → same a a ≡ true
-unfolding same
-same-self [] = refl
-same-self (x ∷ xs) = rw (eq-eqb x x refl) (same-self xs)
 
 -- the offset of a line among those that a text is cut into
 pub offsetOf : List (List ℕ) → ℕ → ℕ

@@ -1,9 +1,9 @@
 -- Finding a word's line in the exception lists.
 use Prim.Native.Nat.{ℕ, _+_, _-_}
-use mathlib.Core.Bool.{Bool, true, false, cond, _&&_}
+use mathlib.Core.Bool.{cond}
 use mathlib.Core.List.{List, [], _∷_}
-use lib.Dec.{eqb}
 use lib.ListN.{length}
+use Rattle.base.specs.Tests.{same}
 use Rattle.words.specs.Symbols.{symbolsOf}
 use Rattle.words.specs.Words.{wordSymbols}
 use Rattle.lines.specs.Lines.{cut}
@@ -11,13 +11,6 @@ use Rattle.lookup.specs.declared.Found.{Found}
 use Rattle.lookup.specs.declared.Found.the-variants.{At, Nothing}
 use Rattle.lookup.specs.declared.Located.{Located}
 use Rattle.lookup.specs.declared.Located.the-variants.{Customer, House, Nowhere}
-
--- Are two lists of symbols the same?
-unfoldable pub same : List ℕ → List ℕ → Bool
-same [] [] = true
-same [] (y ∷ ys) = false
-same (x ∷ xs) [] = false
-same (x ∷ xs) (y ∷ ys) = eqb x y && same xs ys
 
 -- The first of some lines that has these symbols: where it starts, and where it ends "without its line feed", its last byte.
 -- `at` is the offset of the first line given.

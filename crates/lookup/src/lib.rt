@@ -6,7 +6,8 @@ ghost use denote.Ref.{ptr};
 ghost use Rattle.base.specs.Grounds.{Finds, says, firstOf};
 ghost use Rattle.words.specs.Symbols.{symbolsOf};
 ghost use Rattle.words.specs.Words.{wordSymbols};
-ghost use Rattle.lookup.specs.Find.{same, find, findEither};
+ghost use Rattle.base.specs.Tests.{same};
+ghost use Rattle.lookup.specs.Find.{find, findEither};
 ghost use Rattle.lookup.specs.Lookup.{lookupGrounds, lineSaid, lookupSaid, locate, lineOf, placeOf};
 
 // Where a word's line stands in one list, without its line feed.

@@ -20,9 +20,8 @@ use Rattle.lines.proofs.Laws.{cut-line}
 use Rattle.lists.specs.Lists.{judgePatterns}
 use Rattle.liang.specs.Patterns.{Pattern, levelsFrom, patternOf, patternsOf}
 use Rattle.table.specs.Table.{putNumber}
-use Rattle.right.specs.Paths.{nth}
-use Rattle.accepted.specs.Shaped.{Shaped}
-use Rattle.acceptance.proofs.Lists.{good-patterns}
+use Rattle.patterns.specs.Strings.{nth, Shaped}
+use Rattle.patterns.proofs.Good.{good-patterns}
 use Rattle.fit.specs.Cells.{Full, Fits, isFree, cellOf, placeLengths, layoutOf, usedFrom}
 use Rattle.fit.specs.Entries.{Entries, TooMany, Made, Outputs, Over, Out, enterLevels, enterPattern, putOutput, outputOf, outputsOf}
 use Rattle.fit.specs.Table.{Fit, NoRoom, Packed, putKinds, bytesOf, finish, fitLayout, firstFit}

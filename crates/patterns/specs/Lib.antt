@@ -1,3 +1,4 @@
 pub mod Common
 pub mod Next
+pub mod Strings
 pub mod Post

@@ -19,8 +19,8 @@ use Rattle.table.specs.Table.{numberAt}
 use Rattle.patterns.specs.Common.{common}
 use Rattle.patterns.specs.Next.{nextIn, nextMask}
 use Rattle.patterns.proofs.Next.{mask-says}
-use Rattle.right.specs.Test.{allFrom}
-use Rattle.right.proofs.All.{all-same, all-not}
+use Rattle.base.specs.Tests.{allFrom}
+use Rattle.base.proofs.All.{all-same, all-not}
 use Rattle.fit.specs.Cells.{putNumber, isFree, serves, smallest, baseFor, inside, putCell, putCells, cellOf, putLink, Layout, Full, Fits, placeAt, place, opens, placeLength, placeLengths}
 use Rattle.placing.specs.Post.{marked, placeLine, Sized, Placed}
 

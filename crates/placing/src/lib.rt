@@ -9,7 +9,7 @@ ghost use Rattle.base.specs.Limits.{symbols, cells};
 ghost use Rattle.words.specs.Symbols.{symbolsOf};
 ghost use Rattle.lines.specs.Lines.{cut};
 ghost use Rattle.liang.specs.Patterns.{patternOf, patternsOf};
-ghost use Rattle.right.specs.Test.{allFrom};
+ghost use Rattle.base.specs.Tests.{allFrom};
 ghost use Rattle.fit.specs.Cells.{Fits, isFree, serves, smallest, baseFor, inside, putCell, putCells, cellOf, putLink, place, opens, placeLength, placeLengths};
 ghost use Rattle.placing.specs.Post.{marked, placeLine, Sized, Placed};
 

@@ -13,7 +13,8 @@ use Rattle.table.specs.declared.Look.the-variants.{Hit}
 use Rattle.liang.specs.Patterns.{Pattern}
 use Rattle.walk.specs.Chain.{chain}
 use Rattle.walk.specs.Raise.{highestSet}
-use Rattle.right.specs.Paths.{along, Path, Beginning, nth}
+use Rattle.right.specs.Paths.{along, Path}
+use Rattle.patterns.specs.Strings.{Beginning, nth}
 
 -- "no chain reached shows a fault just listed": a number over E or a kind other than 3, a level outside 1 to 9, a distance over
 -- the path's length m, a next not lower. `go` is the chain from a number on.

@@ -8,6 +8,7 @@ use mathlib.Core.List.{List, [], _∷_, _++_}
 use lib.Dec.{leb, ltb, eqb}
 use lib.ListN.{getD}
 use Rattle.base.specs.Limits.{symbols, patternLimit}
+use Rattle.base.specs.Tests.{allFrom}
 use Rattle.base.specs.Grounds.{Row, on, first, refuseIf}
 use Rattle.base.specs.declared.Check.{Check}
 use Rattle.base.specs.declared.Ground.the-variants.{NotRight}
@@ -20,11 +21,6 @@ use Rattle.walk.specs.Chain.{chain}
 use Rattle.walk.specs.Raise.{highestSet}
 use Rattle.right.specs.Right.{sound}
 use Rattle.patterns.specs.Common.{common}
-
--- A test of n numbers from k on.
-unfoldable pub allFrom : (ℕ → Bool) → ℕ → ℕ → Bool
-allFrom test k zero = true
-allFrom test k (suc n) = test k && allFrom test (suc k) n
 
 -- The kinds of n records that stand `size` bytes apart, from a place on.
 unfoldable pub kindsFrom : ℕ → ℕ → List ℕ → ℕ → ℕ → Bool

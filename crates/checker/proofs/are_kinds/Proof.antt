@@ -1,10 +1,9 @@
 use borrow.Author.Needs.{needs}
-use Prim.Native.Nat.{_≤_, _<_, _+_, _-_}
-use mathlib.Core.Path.{_≡_, refl, sym, _∙_}
+use Prim.Native.Nat.{_≤_, _+_, _-_}
+use mathlib.Core.Path.{_≡_, sym, _∙_}
 use lib.ListN.{length}
 use Rattle.right.specs.Test.{kindsFrom}
-use Rattle.checker.proofs.Laws.{kinds-past, kinds-other, kinds-pass, kinds-end}
-use Rattle.checker.proofs.Laws.{kinds-start as law-start}
+use Rattle.checker.proofs.Laws.{kinds-past, kinds-other, kinds-pass, kinds-end, kinds-start as law-start}
 use Rattle.checker.proofs.are_kinds.Statement.{statement}
 use Rattle.checker.proofs.are_kinds.Tie as tie
 

@@ -1,8 +1,9 @@
 use borrow.Author.Needs.{needs}
 use Prim.Native.Nat.{_-_}
 use mathlib.Core.Path.{_≡_, sym, _∙_}
-use Rattle.right.specs.Test.{allFrom, noneBetween}
-use Rattle.right.proofs.All.{all-pass, all-fail, all-end}
+use Rattle.base.specs.Tests.{allFrom}
+use Rattle.right.specs.Test.{noneBetween}
+use Rattle.base.proofs.All.{all-pass, all-fail, all-end}
 use Rattle.checker.proofs.Laws.{free, none-leaf, none-start, free-hit, free-miss}
 use Rattle.checker.proofs.is_none_between.Statement.{statement}
 use Rattle.checker.proofs.is_none_between.Tie as tie

@@ -4,7 +4,7 @@ use mathlib.Core.Path.{_≡_, sym, _∙_}
 use lib.ListN.{length}
 use Rattle.words.specs.Symbols.{symbolsOf}
 use Rattle.words.specs.Words.{wordSymbols}
-use Rattle.lookup.specs.Find.{same}
+use Rattle.base.specs.Tests.{same}
 use Rattle.lookup.proofs.Laws as law
 use Rattle.lookup.proofs.is_line_of.Statement.{statement}
 use Rattle.lookup.proofs.is_line_of.Tie as tie

@@ -6,8 +6,8 @@ use native.Mathlib.Omega.{arith}
 use borrow.Author.Tests.{not-true, not-false}
 use lib.ListN.{length}
 use Rattle.base.specs.Limits.{symbols}
-use Rattle.right.specs.Test.{allFrom}
-use Rattle.right.proofs.All.{all-pass, all-fail, all-end}
+use Rattle.base.specs.Tests.{allFrom}
+use Rattle.base.proofs.All.{all-pass, all-fail, all-end}
 use Rattle.fit.specs.Cells.{isFree}
 use Rattle.placing.specs.Post.{marked}
 use Rattle.placing.proofs.are_usable.Statement.{statement}

@@ -7,8 +7,8 @@ use borrow.Author.Tests.{not-true, not-false}
 use lib.Dec.{ltb}
 use lib.ListN.{length}
 use Rattle.base.specs.Limits.{symbols}
-use Rattle.right.specs.Test.{allFrom}
-use Rattle.right.proofs.All.{all-pass, all-fail, all-end}
+use Rattle.base.specs.Tests.{allFrom}
+use Rattle.base.proofs.All.{all-pass, all-fail, all-end}
 use Rattle.fit.specs.Cells.{inside}
 use Rattle.placing.specs.Post.{marked}
 use Rattle.placing.proofs.Laws.{inside-start}

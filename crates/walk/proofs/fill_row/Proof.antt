@@ -7,8 +7,7 @@ use lib.ListN.{length, take, length-set}
 use Rattle.base.specs.Limits.{edge}
 use Rattle.words.specs.Words.{wordSymbols}
 use Rattle.words.proofs.Laws.{word-letter}
-use Rattle.walk.proofs.Laws.{row-start, row-turn, row-end}
-use Rattle.walk.proofs.Laws.{row-kept}
+use Rattle.walk.proofs.Laws.{row-start, row-turn, row-end, row-kept}
 use Rattle.walk.proofs.fill_row.Statement.{statement}
 use Rattle.walk.proofs.fill_row.Tie as tie
 

@@ -5,7 +5,7 @@ use mathlib.Core.Path.{_≡_, refl, _∙_}
 use native.Mathlib.Decide.{decLt}
 use native.Mathlib.Numerals.{add-one}
 use native.Mathlib.Omega.{arith}
-use Rattle.right.specs.Test.{allFrom}
+use Rattle.base.specs.Tests.{allFrom}
 
 -- a test of all numbers below a total, from k on
 module _ (test : ℕ → Bool) (k total : ℕ) where

@@ -1,22 +1,24 @@
--- In a sorted list the patterns with one beginning stand together and go on in order, and a pattern that is a beginning comes first.
+-- In a sorted list the patterns with one beginning stand together and go on in order, the beginning itself first. So the search for
+-- continuations from the first of them on finds them all.
 use Prim.Native.Nat.{ℕ, zero, suc, _≤_, _<_}
-use mathlib.Core.Bool.{true}
+use mathlib.Core.Bool.{Bool, true, false, _&&_, _||_}
 use mathlib.Core.List.{List, [], _∷_}
 use mathlib.Core.Logic.{_⊎_, inl, inr}
-use mathlib.Core.Path.{_≡_, refl, _∙_}
+use mathlib.Core.Path.{_≡_, refl, sym, _∙_, ap}
 use native.Mathlib.Decide.{decLt}
 use native.Mathlib.Omega.{arith}
 use borrow.Author.Tests.{le-leb}
+use lib.Dec.{eqb}
 use lib.ListN.{length, getD}
 use Rattle.base.proofs.Lists.{never}
 use Rattle.lines.specs.Order.{before}
 use Rattle.lines.proofs.Order.{first-differs}
 use Rattle.liang.specs.Patterns.{Pattern}
 use Rattle.liang.specs.Levels.{begins}
 use Rattle.patterns.specs.Common.{common}
-use Rattle.right.specs.Paths.{nth}
-use Rattle.accepted.proofs.Strings.{begins-cons, begins-more, begins-self, begins-common}
-use Rattle.acceptance.proofs.Strings.{begins-above}
+use Rattle.patterns.specs.Next.{nextIn}
+use Rattle.patterns.specs.Strings.{nth, Beginning, Sorted}
+use Rattle.patterns.proofs.Strings.{begins-cons, begins-more, begins-self, begins-common, begins-shared, begins-above, begins-further, _▸_, snoc-length}
 
 -- nothing stands before its own beginning
 begins-first : (u a : List ℕ) → begins u a ≡ true → before a u ≡ true → ⊥
@@ -31,7 +33,7 @@ begins-first (x ∷ u) (y ∷ a) b l = go (begins-cons x y u a b) (first-differs
     go p (inr q) next = next (p .1) (q .1)
 
 -- what begins two lists begins every one between
-begins-between : (u a b c : List ℕ) → before a b ≡ true → before b c ≡ true → begins u a ≡ true → begins u c ≡ true → begins u b ≡ true
+pub begins-between : (u a b c : List ℕ) → before a b ≡ true → before b c ≡ true → begins u a ≡ true → begins u c ≡ true → begins u b ≡ true
 unfolding begins before
 begins-between [] a b c k l p q = refl
 begins-between (x ∷ u) [] b c k l p q = never p
@@ -66,10 +68,6 @@ begins-order (x ∷ u) (y ∷ a) (z ∷ b) p q l = go (begins-cons x y u a p) (b
         → (begins u a ≡ true → begins u b ≡ true → before a b ≡ true → getD a (length u) 0 ≤ getD b (length u) 0) → getD a (length u) 0 ≤ getD b (length u) 0
     go d e (inl h) next = absurd (omega (arith, d .0, e .0))
     go d e (inr h) next = next (d .1) (e .1) (h .1)
-
--- "strictly ascend": every pattern's symbols stand before those of every later one
-abbrev pub Sorted : List Pattern → Type 0
-Sorted patterns = (i j : ℕ) → i < j → j < length patterns → before (nth patterns i .symbols) (nth patterns j .symbols) ≡ true
 
 -- what stands above a pattern: the symbols of the one before it, or `top`
 unfoldable pub above : List ℕ → List Pattern → ℕ → List ℕ
@@ -137,3 +135,53 @@ module _ (patterns : List Pattern) (sorted : Sorted patterns) (u : List ℕ) whe
       go : Dec (i < j) → j ≡ i
       go (yes l) = absurd (begins-first u (nth patterns i .symbols) (n .stands) (rw e at (sorted i j l h)))
       go (no l) = omega (arith, new-first i n j h (rw e (begins-self u)))
+
+-- behind a string that goes on, one with the same beginning goes on as well
+pub goes-on : (w a b : List ℕ) → begins w a ≡ true → begins w b ≡ true → before a b ≡ true → length w < length a → length w < length b
+unfolding begins before
+goes-on [] [] b p q l h = absurd (omega arith)
+goes-on [] (y ∷ a) [] p q l h = never l
+goes-on [] (y ∷ a) (z ∷ b) p q l h = omega arith
+goes-on (x ∷ w) [] b p q l h = never p
+goes-on (x ∷ w) (y ∷ a) [] p q l h = never q
+goes-on (x ∷ w) (y ∷ a) (z ∷ b) p q l h = go (begins-cons x y w a p) (begins-cons x z w b q) (first-differs y z (before a b) l) (goes-on w a b)
+  where
+    go : (x ≡ y) × (begins w a ≡ true) → (x ≡ z) × (begins w b ≡ true) → (y < z) ⊎ ((y ≡ z) × (before a b ≡ true))
+        → (begins w a ≡ true → begins w b ≡ true → before a b ≡ true → length w < length a → length w < length b) → suc (length w) < suc (length b)
+    go e f (inl k) next = absurd (omega (arith, e .0, f .0))
+    go e f (inr k) next = omega (arith, next (e .1) (f .1) (k .1) (omega arith))
+
+-- the search for continuations, from the first pattern with the beginning on
+module _ (w own : List ℕ) (s : ℕ) (stands : begins w own ≡ true) (some : 1 ≤ s) where
+  next-turn : (p : Pattern) (rest : List Pattern)
+      → nextIn (length w) own (p ∷ rest) s ≡ (begins w (p .symbols) && (eqb (getD (p .symbols) (length w) 0) s || nextIn (length w) own rest s))
+  unfolding nextIn
+  next-turn p rest = ap (λ (z : Bool). z && (eqb (getD (p .symbols) (length w) 0) s || nextIn (length w) own rest s)) (sym (begins-shared w own (p .symbols) stands))
+
+  -- nothing else is found
+  pub next-sound : (ps : List Pattern) → nextIn (length w) own ps s ≡ true → Beginning ps (w ▸ s)
+  unfolding nextIn
+  next-sound [] e = never e
+  next-sound (p ∷ rest) e =
+      go (begins w (p .symbols)) refl (eqb (getD (p .symbols) (length w) 0) s) refl (sym (next-turn p rest) ∙ e) (next-sound rest)
+    where
+      go : (a : Bool) → begins w (p .symbols) ≡ a → (b : Bool) → eqb (getD (p .symbols) (length w) 0) s ≡ b → (a && (b || nextIn (length w) own rest s)) ≡ true
+          → (nextIn (length w) own rest s ≡ true → Beginning rest (w ▸ s)) → Beginning (p ∷ rest) (w ▸ s)
+      go true h true k q next = record { some = omega (arith, snoc-length w s); at = 0; within = omega arith; stands = begins-further w s (p .symbols) some ∙ rw (h, k) }
+      go true h false k q next = let c = next q in record { some = c .some; at = suc (c .at); within = omega (arith, c .within); stands = c .stands }
+      go false h b k q next = never q
+
+  -- and everything is
+  pub next-complete : (ps : List Pattern) (k : ℕ) → k < length ps → ((i : ℕ) → i ≤ k → begins w (nth ps i .symbols) ≡ true) → begins (w ▸ s) (nth ps k .symbols) ≡ true
+      → nextIn (length w) own ps s ≡ true
+  next-complete [] k h all e = absurd (omega arith)
+  next-complete (p ∷ rest) zero h all e =
+      let f = all 0 (omega arith) in
+      let g : eqb (getD (p .symbols) (length w) 0) s ≡ true = rw f at (sym (begins-further w s (p .symbols) some) ∙ e) in
+      next-turn p rest ∙ rw (f, g)
+  next-complete (p ∷ rest) (suc k) h all e =
+      next-turn p rest ∙ rw (all 0 (omega arith), next-complete rest k (omega arith) (λ i l. all (suc i) (omega arith)) e) (go (eqb (getD (p .symbols) (length w) 0) s))
+    where
+      go : (b : Bool) → (b || true) ≡ true
+      go true = refl
+      go false = refl

@@ -1,4 +1,4 @@
--- What a good pattern list says of its patterns, and a well-formed table of its two parts.
+-- What a good pattern list says of its patterns.
 use Prim.Native.Nat.{ℕ, zero, suc, _+_, _*_, _-_, _≤_, _<_}
 use mathlib.Core.Bool.{Bool, true, false, cond, not, _&&_, _||_, and-false}
 use mathlib.Core.List.{List, [], _∷_, map}
@@ -12,7 +12,7 @@ use Rattle.base.specs.Limits.{edge, symbols, patternLimit, patternText, levelLi
 use Rattle.base.specs.declared.Check.the-variants.{Fine}
 use Rattle.base.specs.declared.Ground.the-variants.{TableForm}
 use Rattle.base.proofs.Grounds.{both-fine, not-refused}
-use Rattle.base.proofs.Lists.{never}
+use Rattle.base.proofs.Lists.{never, both}
 use Rattle.words.specs.Symbols.{dot, small, digit, symbolOf, symbolsOf}
 use Rattle.words.proofs.Laws.{range-high, small-symbol}
 use Rattle.lines.specs.Lines.{cut, anyOf, patternForm, goodPattern}
@@ -23,12 +23,8 @@ use Rattle.lists.specs.declared.Lines.{Lines}
 use Rattle.lists.specs.declared.Lines.the-variants.{Good, BadAt}
 use Rattle.lists.proofs.Theorems.{passed, ascending}
 use Rattle.liang.specs.Patterns.{levelsFrom, patternOf, patternsOf}
 use Rattle.patterns.proofs.Laws.{line-levels}
-use Rattle.table.specs.Table.{headSize, cellSize, entrySize, cellCount, entryCount, formed, judgeTable, cellsOf, entriesOf}
-use Rattle.right.specs.Paths.{allSymbols, nth}
-use Rattle.accepted.specs.Shaped.{Shaped}
-use Rattle.accepted.proofs.Strings.{both}
-use Rattle.acceptance.proofs.Order.{Sorted}
+use Rattle.patterns.specs.Strings.{allSymbols, nth, Shaped, Sorted}
 
 -- a symbol is 1 to 27
 symbol-most : (b : ℕ) → symbolOf b ≤ symbols
@@ -137,22 +133,3 @@ module _ (text : List ℕ) (fine : judgePatterns text ≡ Fine) where
   pub good-levels : (i : ℕ) → i < length (patternsOf text) → (gap : ℕ) → getD (nth (patternsOf text) i .levels) gap 0 ≤ levelLimit
   unfolding patternOf
   good-levels i h gap = rw (nth-pattern i h .1) (line-low 0 (getD (cut text) i []) (omega arith) gap)
-
--- the length that ground 9 asks for, part by part
-module _ (table : List ℕ) (fine : judgeTable table ≡ Fine) where
-  table-length : length table ≡ headSize + cellSize * cellCount table + entrySize * entryCount table
-  unfolding judgeTable formed
-  table-length = go (eqb (length table) (headSize + cellSize * cellCount table + entrySize * entryCount table)) refl
-    where
-      go : (z : Bool) → eqb (length table) (headSize + cellSize * cellCount table + entrySize * entryCount table) ≡ z
-          → length table ≡ headSize + cellSize * cellCount table + entrySize * entryCount table
-      go true e = eqb-true (length table) _ e
-      go false e = never (simp (e, and-false) at (not-false (formed table) (not-refused (not (formed table)) TableForm fine)))
-
-  pub cells-length : length (cellsOf table) ≡ 6 * cellCount table
-  unfolding cellsOf
-  cells-length = length-take-le (cellSize * cellCount table) (drop headSize table) (omega (arith, table-length, length-drop headSize table))
-
-  pub entries-length : length (entriesOf table) ≡ 5 * entryCount table
-  unfolding entriesOf
-  entries-length = omega (arith, table-length, length-drop (headSize + cellSize * cellCount table) table)
