@@ -1,6 +1,6 @@
 -- Laws about a test of numbers in turn, `allFrom`: one for each way through a loop.
 use Prim.Native.Nat.{ℕ, zero, suc, _+_, _-_, _≤_, _<_}
-use mathlib.Core.Bool.{Bool, true, false, _&&_}
+use mathlib.Core.Bool.{Bool, true, false, _&&_, and-false}
 use mathlib.Core.Path.{_≡_, refl, _∙_}
 use native.Mathlib.Decide.{decLt}
 use native.Mathlib.Numerals.{add-one}
@@ -36,15 +36,11 @@ each-all test k zero h = refl
 each-all test k (suc n) h = rw (h k (omega arith) (omega arith)) (each-all test (suc k) n (λ j p q. h j (omega arith) (omega arith)))
 
 -- one number that fails
-and-no : (b : Bool) → (b && false) ≡ false
-and-no true = refl
-and-no false = refl
-
 pub all-not : (test : ℕ → Bool) (k n j : ℕ) → k ≤ j → j < k + n → test j ≡ false → allFrom test k n ≡ false
 unfolding allFrom
 all-not test k zero j h l e = absurd (omega arith)
 all-not test k (suc n) j h l e = go (decLt k j) (all-not test (suc k) n j)
   where
     go : Dec (k < j) → (suc k ≤ j → j < suc k + n → test j ≡ false → allFrom test (suc k) n ≡ false) → (test k && allFrom test (suc k) n) ≡ false
-    go (yes p) next = rw (next (omega arith) (omega arith) e) (and-no (test k))
+    go (yes p) next = rw (next (omega arith) (omega arith) e) (and-false (test k))
     go (no p) next = let i : j ≡ k = omega arith in let t : test k ≡ false = rw (← i) e in rw t

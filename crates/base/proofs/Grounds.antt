@@ -2,14 +2,14 @@
 use mathlib.Core.Bool.{Bool, true, false, cond}
 use mathlib.Core.List.{List, [], _∷_, _++_}
 use mathlib.Core.Path.{_≡_, refl, sym, _∙_, ap}
-use native.Mathlib.Omega.{arith}
 use Prim.Native.Nat.{ℕ}
 use lib.Dec.{eqb}
-use Rattle.base.specs.Grounds.{Told, told, Said, Finds, Refuses, says, Row, on, firstOf, first, refuseIf}
+use Rattle.base.specs.Grounds.{Told, told, Said, Finds, Refuses, says, Row, firstOf, first, refuseIf}
 use Rattle.base.specs.declared.Check.{Check}
 use Rattle.base.specs.declared.Check.the-variants.{Fine, Refused}
 use Rattle.base.specs.declared.Ground.{Ground}
 use Rattle.base.specs.declared.Ground.the-variants.{Margin, WordEmpty, NotLetter, WordLong, RoomShort, BadException, BadPattern, TextLong, TableForm, PackRoomShort, NoFit, NotRight}
+use Rattle.base.proofs.Lists.{clash}
 
 -- a judgement that is fine hands on to the next; the first refusal is the answer
 module _ {a : Check} (b : Check) {r : Check} (p : r ≡ a) where
@@ -22,12 +22,12 @@ module _ {a : Check} (b : Check) {r : Check} (p : r ≡ a) where
 -- what it says of the parts that judgements in order are fine
 pub both-fine : (a b : Check) → first a b ≡ Fine → (a ≡ Fine) × (b ≡ Fine)
 both-fine Fine b e = (refl, e)
-both-fine (Refused g) b e = let z : _≡_ {A = ℕ} 0 1 = cc in absurd (omega arith)
+both-fine (Refused g) b e = clash cc
 
 -- a test that fails refuses nothing
 pub not-refused : (t : Bool) (g : Ground) → refuseIf t g ≡ Fine → t ≡ false
 not-refused false g e = refl
-not-refused true g e = let z : _≡_ {A = ℕ} 0 1 = cc in absurd (omega arith)
+not-refused true g e = clash cc
 
 -- No two grounds tell the same: what is told gives the ground back.
 ground-of : Told → Ground
@@ -72,7 +72,7 @@ refuses-once e = ap refused-as e
 
 -- a finding is no refusal
 pub no-refusal : {A : Type 0} {values : List ℕ} {t : Told} → Finds values ≡ Refuses t → A
-no-refusal e = let z : _≡_ {A = ℕ} 0 1 = cc in absurd (omega arith)
+no-refusal e = clash cc
 
 pub says-once : (r s : Check) → says r ≡ says s → r ≡ s
 unfolding says

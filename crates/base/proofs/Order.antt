@@ -1,6 +1,6 @@
 -- What an order of grounds comes to, whatever the call.
 use Prim.Native.Nat.{ℕ, zero, suc, _<_}
-use mathlib.Core.Bool.{Bool, true, false, cond, _||_}
+use mathlib.Core.Bool.{Bool, true, false, cond, _||_, or-true}
 use mathlib.Core.List.{List, [], _∷_}
 use mathlib.Core.Logic.{_↔_}
 use mathlib.Core.Path.{_≡_, refl, sym, ap}
@@ -79,10 +79,6 @@ unfolding oneOf
 chosen-listed [] n at h e = absurd (omega arith)
 chosen-listed (row ∷ rows) n zero h e = rw (eq-eqb n (row .tells .number) (sym e))
 chosen-listed (row ∷ rows) n (suc at) h e = rw (chosen-listed rows n at (omega arith) e) (or-true (eqb n (row .tells .number)))
-  where
-    or-true : (z : Bool) → (z || true) ≡ true
-    or-true true = refl
-    or-true false = refl
 
 pub refuses-listed : (rows : List Row) (values : List ℕ) {t : Told} → firstOf (Finds values) rows ≡ Refuses t → oneOf (t .number) (numbersOf rows) ≡ true
 refuses-listed rows values {t} e = let c = refuses-first rows values e in chosen-listed rows (t .number) (c .at) (c .within) (ap (λ (s : Told). s .number) (c .tells))

@@ -27,8 +27,8 @@ abbrev pub edge : ℕ
 edge = 27
 
 -- How many symbols there are: 1 to this number.
-abbrev pub symbols : ℕ
-symbols = 27
+abbrev pub symbolLimit : ℕ
+symbolLimit = 27
 
 -- Pattern line: "1 to 16 symbols". Walk: "or 16 symbols have matched".
 abbrev pub patternLimit : ℕ
@@ -42,11 +42,11 @@ abbrev pub exceptionText : ℕ
 exceptionText = 8192
 
 -- "C is 1 to 8,192, E 0 to 2,048."
-abbrev pub cells : ℕ
-cells = 8192
+abbrev pub cellLimit : ℕ
+cellLimit = 8192
 
-abbrev pub entries : ℕ
-entries = 2048
+abbrev pub entryLimit : ℕ
+entryLimit = 2048
 
 -- Ground 10: "pack room under 59,398 bytes", the length of the longest table.
 abbrev pub packRoom : ℕ

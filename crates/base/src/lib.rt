@@ -5,9 +5,9 @@ ghost use Rattle.base.specs.Grounds.{told};
 // The limits of document 01. specs/Limits.antt has each of them under the same name, with the sentence that sets it.
 pub const WORD_LIMIT: usize = 63;
 
-pub const ROOM: usize = 64;
+pub const ROOM_SIZE: usize = 64;
 
-pub const ROW: usize = 65;
+pub const ROW_LIMIT: usize = 65;
 
 pub const LEVEL_LIMIT: u8 = 9;
 
@@ -15,7 +15,7 @@ pub const MARGIN_LIMIT: usize = 63;
 
 pub const EDGE: u8 = 27;
 
-pub const SYMBOLS: u8 = 27;
+pub const SYMBOL_LIMIT: u8 = 27;
 
 pub const PATTERN_LIMIT: usize = 16;
 
@@ -23,16 +23,16 @@ pub const PATTERN_TEXT: usize = 32768;
 
 pub const EXCEPTION_TEXT: usize = 8192;
 
-pub const CELLS: usize = 8192;
+pub const CELL_LIMIT: usize = 8192;
 
-pub const ENTRIES: usize = 2048;
+pub const ENTRY_LIMIT: usize = 2048;
 
 pub const PACK_ROOM: usize = 59398;
 
 // The numbers of the two exception lists.
-pub const CUSTOMER: usize = 1;
+pub const CUSTOMER_LIST: usize = 1;
 
-pub const HOUSE: usize = 2;
+pub const HOUSE_LIST: usize = 2;
 
 // Why a call refuses, with the list and the offset where document 01 tells a place.
 pub enum Ground {

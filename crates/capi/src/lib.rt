@@ -8,7 +8,7 @@ ghost use mathlib.Core.Path.{_≡_};
 ghost use Prim.Native.Nat.{_-_};
 ghost use lib.ListN.{length};
 ghost use Rattle.lookup.specs.Lookup.{locate};
-ghost use Rattle.right.specs.Test.{judgeCheck};
+ghost use Rattle.rightness.specs.Test.{judgeCheck};
 ghost use Rattle.hyphenation.specs.Calls.{levelsAnswer, levelsRoom, breaksAnswer, breaksRoom};
 ghost use Rattle.packer.specs.Pack.{packAnswer, packLeaves};
 ghost use Rattle.capi.specs.Bits.{bitsAt, toldBits, refusalBits, foundBits, lineBits, answerBits, packingBits, checkBits, locatedBits};
@@ -100,8 +100,8 @@ fn located_bits(at: Located) -> u64
     ensures { λ r. ⌜ r ≡ locatedBits at ⌝ }
 {
     match at {
-        Located::Customer { start, end } => line_bits(base::CUSTOMER, start, end),
-        Located::House { start, end } => line_bits(base::HOUSE, start, end),
+        Located::Customer { start, end } => line_bits(base::CUSTOMER_LIST, start, end),
+        Located::House { start, end } => line_bits(base::HOUSE_LIST, start, end),
         Located::Nowhere => 0,
     }
 }

@@ -1,6 +1,6 @@
 -- Laws about the checker's test: one for each way through the code.
 use Prim.Native.Nat.{ℕ, zero, suc, _+_, _-_, _≤_, _<_}
-use mathlib.Core.Bool.{Bool, true, false, cond, not, _&&_, _||_}
+use mathlib.Core.Bool.{Bool, true, false, cond, not, _&&_, _||_, and-true}
 use mathlib.Core.List.{List, [], map}
 use mathlib.Core.Path.{_≡_, refl, sym, _∙_, ap}
 use native.Mathlib.Decide.{decLt}
@@ -10,11 +10,11 @@ use borrow.Author.Tests.{lt-leb, le-leb, lt-ltb, le-ltb, eq-eqb, ne-eqb, ltb-tru
 use lib.Dec.{leb, ltb, eqb}
 use lib.ListN.{length, getD, take, drop, replicate, getD-replicate, drop-of-length-le, List·getD-eq-default}
 use lib.Seq.{take-nil}
-use Rattle.base.specs.Limits.{symbols, patternLimit, levelLimit, roomSize}
+use Rattle.base.specs.Limits.{symbolLimit, patternLimit, levelLimit, roomSize}
 use Rattle.base.specs.Grounds.{refuseIf}
 use Rattle.base.specs.declared.Check.the-variants.{Fine, Refused}
 use Rattle.base.specs.declared.Ground.the-variants.{NotRight}
-use Rattle.base.proofs.Lists.{cons-at, never}
+use Rattle.base.proofs.Lists.{cons-at, both}
 use Rattle.words.specs.Symbols.{small, digit, symbolOf, symbolsOf}
 use Rattle.words.specs.Words.{inner}
 use Rattle.lines.specs.Lines.{cut, lineLength, anyOf, patternForm, goodPattern}
@@ -29,15 +29,17 @@ use Rattle.patterns.specs.Post.{Parts}
 use Rattle.patterns.proofs.Laws.{rest-skip, rest-keep, rest-end, levels-digit, levels-symbol, levels-other, levels-end, line-levels, common-none}
 use Rattle.table.specs.declared.Look.{Look}
 use Rattle.table.specs.declared.Look.the-variants.{Hit, Miss}
-use Rattle.table.specs.Table.{cellKind, entryKind, cellSize, entrySize, cellCount, entryCount, cellsOf, entriesOf, entryAt, look}
+use Rattle.table.specs.Table.{rootBase, cellKind, entryKind, cellSize, entrySize, cellCount, entryCount, cellsOf, entriesOf, entryAt, look}
 use Rattle.table.specs.declared.Entry.{Entry}
 use Rattle.table.specs.declared.Entry.the-variants.{Has, Stop}
 use Rattle.walk.specs.Chain.{chain}
 use Rattle.walk.specs.Raise.{highestSet, raiseAll}
 use Rattle.walk.proofs.Raised.{raised-at, chain-moved}
-use Rattle.right.specs.Right.{soundStep, soundFrom, sound}
+use Rattle.trie.specs.Sound.{soundStep, soundFrom, sound}
 use Rattle.base.specs.Tests.{allFrom}
-use Rattle.right.specs.Test.{kindsFrom, exactTest, Node, linked, rootAt, childAt, isHit, noneBetween, Beside, passedOver, followStep, follow, firstSymbols, besides, patternsRight, rightTest}
+use Rattle.rightness.specs.declared.Node.{Node}
+use Rattle.rightness.specs.declared.Beside.{Beside}
+use Rattle.rightness.specs.Test.{kindsFrom, kindsTest, exactTest, linked, rootAt, childAt, isHit, noneBetween, passedOver, followStep, follow, firstSymbols, besides, patternsRight, pathsTest, rightTest, rightFor}
 use Rattle.base.proofs.All.{all-same, each-all}
 use Rattle.checker.specs.Post.{sameLevels}
 
@@ -121,10 +123,6 @@ module _ (entries : List ℕ) (m k : ℕ) (z : k ≡ 0 → ⊥) {e : Entry} (p :
     sound-on h i f b r = r ∙ sym (sound-turn entries m k z ∙ rw (← p, q, le-leb 1 l h, le-leb l levelLimit i, le-leb d m f, lt-ltb next k b))
 
 -- a line's levels, one after the other
-and-true : (b : Bool) → (b && true) ≡ b
-and-true true = refl
-and-true false = refl
-
 same-all : (room levels : List ℕ) (k n : ℕ) → length levels ≡ k + n → sameLevels room k (drop k levels) ≡ allFrom (λ gap. eqb (getD room (gap + 1) 0) (getD levels gap 0)) k n
 unfolding sameLevels allFrom
 same-all room levels k zero e = let h : length levels ≤ k = omega arith in rw (drop-of-length-le levels h)
@@ -176,48 +174,88 @@ module _ (entries line : List ℕ) (m output : ℕ) (size : m ≡ length (symbol
   unfolding exactTest
   exact-faulty s = rw s
 
+-- a table's kinds: its cells', and then its entries'
+module _ (cells entries : List ℕ) (c e : ℕ) {a : Bool} (x : a ≡ kindsFrom cellSize cellKind cells 0 c) where
+  pub cells-other : a ≡ false → a ≡ kindsTest cells entries c e
+  unfolding kindsTest
+  cells-other z = z ∙ rw (← x, z)
+
+  pub cells-pass : a ≡ true → {b : Bool} → b ≡ kindsFrom entrySize entryKind entries 0 e → b ≡ kindsTest cells entries c e
+  unfolding kindsTest
+  cells-pass z y = rw (← x, z) y
+
 pub kinds-start : (size kind : ℕ) (bytes : List ℕ) (count : ℕ) → kindsFrom size kind bytes 0 count ≡ kindsFrom size kind bytes 0 (count - 0)
 kinds-start size kind bytes count = let e : count - 0 ≡ count = omega arith in rw e
 
 -- how the table goes on from a node
-module _ (cells : List ℕ) (leaf : Bool) (base s : ℕ) where
-  pub child-leaf : leaf ≡ true → Miss ≡ childAt cells (record { leaf = leaf; base = base }) s
+module _ (cells : List ℕ) (node : Node) (s : ℕ) where
+  pub child-leaf : node .leaf ≡ true → Miss ≡ childAt cells node s
   unfolding childAt
   child-leaf e = rw e
 
-  pub child-look : leaf ≡ false → {l : Look} → l ≡ look cells (base + s) s → l ≡ childAt cells (record { leaf = leaf; base = base }) s
+  pub child-look : node .leaf ≡ false → {l : Look} → l ≡ look cells (node .base + s) s → l ≡ childAt cells node s
   unfolding childAt
   child-look e p = rw e p
 
-module _ (cells : List ℕ) (leaf : Bool) (base : ℕ) where
+module _ (cells : List ℕ) (node : Node) where
   abbrev pub free : ℕ → Bool
-  free s = not (isHit (childAt cells (record { leaf = leaf; base = base }) s))
+  free s = not (isHit (childAt cells node s))
 
-  pub none-leaf : (low high : ℕ) → leaf ≡ true → true ≡ noneBetween cells (record { leaf = leaf; base = base }) low high
+  pub none-leaf : (low high : ℕ) → node .leaf ≡ true → true ≡ noneBetween cells node low high
   unfolding noneBetween
-  none-leaf low high e = sym (each-all free (suc low) (high - suc low) (λ s a b. ap (λ (l : Look). not (isHit l)) (sym (child-leaf cells leaf base s e))))
+  none-leaf low high e = sym (each-all free (suc low) (high - suc low) (λ s a b. ap (λ (l : Look). not (isHit l)) (sym (child-leaf cells node s e))))
 
-  pub none-start : (low high : ℕ) → noneBetween cells (record { leaf = leaf; base = base }) low high ≡ allFrom free (low + 1) (high - (low + 1))
+  pub none-start : (low high : ℕ) → noneBetween cells node low high ≡ allFrom free (low + 1) (high - (low + 1))
   unfolding noneBetween
   none-start low high = rw add-one
 
-  module _ (e : leaf ≡ false) (s : ℕ) {l : Look} (p : l ≡ look cells (base + s) s) where
+  module _ (e : node .leaf ≡ false) (s : ℕ) {l : Look} (p : l ≡ look cells (node .base + s) s) where
     pub free-hit : {link output : ℕ} → l ≡ Hit link output → free s ≡ false
-    free-hit q = ap (λ (k : Look). not (isHit k)) (sym (child-look cells leaf base s e p) ∙ q)
+    free-hit q = ap (λ (k : Look). not (isHit k)) (sym (child-look cells node s e p) ∙ q)
 
     pub free-miss : l ≡ Miss → free s ≡ true
-    free-miss q = ap (λ (k : Look). not (isHit k)) (sym (child-look cells leaf base s e p) ∙ q)
+    free-miss q = ap (λ (k : Look). not (isHit k)) (sym (child-look cells node s e p) ∙ q)
 
--- the symbols that the list passes over
-module _ (cells : List ℕ) (beside : Beside) (node : Node) (m s : ℕ)
-    {a : Bool} (p : a ≡ (ltb m (beside .known) || noneBetween cells node (cond (eqb m (beside .known)) (beside .low) 0) s)) where
-  pub over-below : a ≡ false → false ≡ passedOver cells beside node m s
+-- the symbols that the list passes over, below the line's own and above it
+module _ (cells : List ℕ) (beside : Beside) (node : Node) (m s : ℕ) where
+  pub over-parted : m ≡ beside .known → {a : Bool} → a ≡ noneBetween cells node (beside .low) s → a ≡ false → false ≡ passedOver cells beside node m s
   unfolding passedOver
-  over-below e = rw (← p, e)
+  over-parted h p e = rw (le-ltb m (beside .known) (omega arith), eq-eqb m (beside .known) h, ← p, e)
 
-  pub over-above : a ≡ true → {r : Bool} → r ≡ (leb m (beside .kept) || noneBetween cells node s (suc symbols)) → r ≡ passedOver cells beside node m s
+  pub over-first : beside .known < m → {a : Bool} → a ≡ noneBetween cells node 0 s → a ≡ false → false ≡ passedOver cells beside node m s
   unfolding passedOver
-  over-above e q = rw (← p, e) q
+  over-first h p e = rw (le-ltb m (beside .known) (omega arith), ne-eqb m (beside .known) (λ q. omega arith), ← p, e)
+
+  module _ (parted : m ≡ beside .known → noneBetween cells node (beside .low) s ≡ true) (first : beside .known < m → noneBetween cells node 0 s ≡ true) where
+    none-below : (ltb m (beside .known) || noneBetween cells node (cond (eqb m (beside .known)) (beside .low) 0) s) ≡ true
+    none-below = go (decLt m (beside .known)) (decLt (beside .known) m)
+      where
+        go : Dec (m < beside .known) → Dec (beside .known < m) → (ltb m (beside .known) || noneBetween cells node (cond (eqb m (beside .known)) (beside .low) 0) s) ≡ true
+        go (yes k) d = rw (lt-ltb m (beside .known) k)
+        go (no k) (yes l) = rw (le-ltb m (beside .known) (omega arith), ne-eqb m (beside .known) (λ q. omega arith), first l)
+        go (no k) (no l) = let q : m ≡ beside .known = omega arith in rw (le-ltb m (beside .known) (omega arith), eq-eqb m (beside .known) q, parted q)
+
+    pub over-kept : m ≤ beside .kept → leb m (beside .kept) ≡ passedOver cells beside node m s
+    unfolding passedOver
+    over-kept h = rw (none-below, le-leb m (beside .kept) h)
+
+    pub over-above : beside .kept < m → {r : Bool} → r ≡ noneBetween cells node s (suc symbolLimit) → r ≡ passedOver cells beside node m s
+    unfolding passedOver
+    over-above h q = rw (none-below, lt-leb m (beside .kept) h) q
+
+-- The output of a beginning of m symbols passes: the line above has the beginning, or the output is 0.
+pub record Quiet (known output m : ℕ) : Type 0 where
+  pub passes : (leb m known || eqb output 0) ≡ true
+
+pub quiet-known : (known output m : ℕ) → m ≤ known → Quiet known output m
+quiet-known known output m h = record { passes = rw (le-leb m known h) }
+
+pub quiet-zero : (known output m : ℕ) → eqb output 0 ≡ true → Quiet known output m
+quiet-zero known output m e = record { passes = go (leb m known) }
+  where
+    go : (z : Bool) → (z || eqb output 0) ≡ true
+    go true = refl
+    go false = e
 
 -- one pattern line, followed symbol by symbol
 module _ (cells entries levels : List ℕ) (beside : Beside) (node : Node) (output m : ℕ) where
@@ -254,22 +292,26 @@ module _ (cells entries levels : List ℕ) (beside : Beside) (node : Node) (outp
         unfolding follow
         follow-turn = rw (rest-keep own i h p e)
 
-        module _ {a : Bool} (x : a ≡ (leb m (beside .known) || eqb output 0)) where
-          pub follow-loud : a ≡ false → left ≡ false
-          follow-loud z = follow-turn ∙ rw (← x, z)
+        pub follow-loud : beside .known < m → eqb output 0 ≡ false → left ≡ false
+        follow-loud h z = follow-turn ∙ rw (lt-leb m (beside .known) h, z)
 
-          module _ (y : a ≡ true) {b : Bool} (w : b ≡ passedOver cells beside node m s) where
-            pub follow-crossed : b ≡ false → left ≡ false
-            follow-crossed z = follow-turn ∙ rw (← x, y, ← w, z)
+        module _ (x : Quiet (beside .known) output m) {b : Bool} (w : b ≡ passedOver cells beside node m s) where
+          pub follow-crossed : b ≡ false → left ≡ false
+          follow-crossed z = follow-turn ∙ rw (x .passes, ← w, z)
 
-            module _ (v : b ≡ true) {found : Look} (q : found ≡ childAt cells node s) where
+          module _ (v : b ≡ true) where
+            pub follow-leaf : node .leaf ≡ true → left ≡ false
+            unfolding followStep
+            follow-leaf l = follow-turn ∙ rw (x .passes, ← w, v, ← child-leaf cells node s l)
+
+            module _ (l : node .leaf ≡ false) {found : Look} (q : found ≡ look cells (node .base + s) s) where
               pub follow-miss : found ≡ Miss → left ≡ false
               unfolding followStep
-              follow-miss z = follow-turn ∙ rw (← x, y, ← w, v, ← q, z)
+              follow-miss z = follow-turn ∙ rw (x .passes, ← w, v, ← child-look cells node s l q, z)
 
               pub follow-on : {link out : ℕ} → found ≡ Hit link out → left ≡ follow cells entries levels beside (linked link) out (m + 1) (symbolsOf (drop (i + 1) own))
               unfolding followStep
-              follow-on z = follow-turn ∙ rw (← x, y, ← w, v, ← q, z)
+              follow-on z = follow-turn ∙ rw (x .passes, ← w, v, ← child-look cells node s l q, z)
 
 -- What holds between two symbols of a line: how many are followed, and that the rest decides.
 pub record Following (cells entries : List ℕ) (root : ℕ) (own : List ℕ) (beside : Beside) (node : Node) (output m i : ℕ) : Type 0 where
@@ -307,13 +349,10 @@ module _ (cells entries : List ℕ) (root : ℕ) (own : List ℕ) (beside : Besi
 -- a good line has at most 16 symbols
 good-short : (l : List ℕ) → goodLine Patterns l ≡ true → length (symbolsOf l) ≤ patternLimit
 unfolding goodLine goodPattern
-good-short l e = go (patternForm true false l) (anyOf small l) (anyOf digit l) e
-  where
-    go : (a b c : Bool) → (a && (b && (c && leb (length (symbolsOf l)) patternLimit))) ≡ true → length (symbolsOf l) ≤ patternLimit
-    go true true true h = leb-true (length (symbolsOf l)) patternLimit h
-    go true true false h = never h
-    go true false c h = never h
-    go false b c h = never h
+good-short l e =
+    let form = both (patternForm true false l) _ e .1 in
+    let letters = both (anyOf small l) _ form .1 in
+    leb-true (length (symbolsOf l)) patternLimit (both (anyOf digit l) _ letters .1)
 
 -- the loop over the lines of a good text
 module _ (w : List ℕ) (at e : ℕ) (above : List ℕ) (h : at < length w) (q : e ≡ at + lineLength (drop at w)) (g : firstBad Patterns at above (cut (drop at w)) ≡ Good) where
@@ -358,13 +397,13 @@ module _ (cells entries : List ℕ) (root : ℕ) (w : List ℕ) where
   lined-start end g q = record { above = []; within = omega arith; ends = q; good = g; shares = refl; follows = refl; same = refl }
 
   module _ (known low at end : ℕ) (l : Lined cells entries root w known low at end) where
-    pub lined-done : length w ≤ at → {r : Bool} → r ≡ noneBetween cells (rootAt root) low (suc symbols) → r ≡ patternsRight cells entries root [] (patternsOf w)
+    pub lined-done : length w ≤ at → {r : Bool} → r ≡ noneBetween cells (rootAt root) low (suc symbolLimit) → r ≡ patternsRight cells entries root [] (patternsOf w)
     lined-done h q = q ∙ sym (l .same ∙ last)
       where
         none : common (symbolsOf (l .above)) (symbolsOf (take (end - at) (drop at w))) ≡ 0
         none = unfold symbolsOf in rw (drop-of-length-le w h, take-nil {A = ℕ} (end - at)) (common-none (symbolsOf (l .above)))
 
-        last : patternsRight cells entries root (symbolsOf (l .above)) (map patternOf (cut (drop at w))) ≡ noneBetween cells (rootAt root) low (suc symbols)
+        last : patternsRight cells entries root (symbolsOf (l .above)) (map patternOf (cut (drop at w))) ≡ noneBetween cells (rootAt root) low (suc symbolLimit)
         last = unfold patternsRight cut in rw (drop-of-length-le w h, l .follows, none)
 
     module _ (h : at < length w) where
@@ -395,27 +434,18 @@ module _ (cells entries : List ℕ) (root : ℕ) (w : List ℕ) where
               same = turn ∙ rw z;
             }
 
--- the whole test, in the order in which the code asks
-module _ (text table : List ℕ) (root : ℕ) {cells entries : List ℕ} {c e : ℕ} (p : cells ≡ cellsOf table) (q : entries ≡ entriesOf table) (n : c ≡ cellCount table) (k : e ≡ entryCount table)
-    {a : Bool} (x : a ≡ kindsFrom cellSize cellKind cells 0 c) where
-  pub right-cells : a ≡ false → false ≡ rightTest (patternsOf text) (cellsOf table) (entriesOf table) root (cellCount table) (entryCount table)
+-- the checker's last ground: the kinds, and then the list's paths
+module _ (text table : List ℕ) {cells entries : List ℕ} {c e : ℕ} (p : cells ≡ cellsOf table) (q : entries ≡ entriesOf table) (n : c ≡ cellCount table) (k : e ≡ entryCount table)
+    {a : Bool} (x : a ≡ kindsTest cells entries c e) where
+  pub refused-kinds : a ≡ false → refuseIf (not (rightFor text table)) NotRight ≡ Refused NotRight
   unfolding rightTest
-  right-cells z = rw (← p, ← n, ← x, z)
+  refused-kinds z = rw (← p, ← q, ← n, ← k, ← x, z)
 
-  module _ (z : a ≡ true) {b : Bool} (y : b ≡ kindsFrom entrySize entryKind entries 0 e) where
-    pub right-entries : b ≡ false → false ≡ rightTest (patternsOf text) (cellsOf table) (entriesOf table) root (cellCount table) (entryCount table)
+  module _ (z : a ≡ true) {b : Bool} (y : b ≡ pathsTest (patternsOf text) cells entries rootBase) where
+    pub refused-paths : b ≡ false → refuseIf (not (rightFor text table)) NotRight ≡ Refused NotRight
     unfolding rightTest
-    right-entries w = rw (← p, ← n, ← x, z, ← q, ← k, ← y, w)
+    refused-paths w = rw (← p, ← q, ← n, ← k, ← x, z, ← y, w)
 
-    pub right-lines : b ≡ true → {r : Bool} → r ≡ patternsRight cells entries root [] (patternsOf text)
-        → r ≡ rightTest (patternsOf text) (cellsOf table) (entriesOf table) root (cellCount table) (entryCount table)
+    pub accepted-right : b ≡ true → refuseIf (not (rightFor text table)) NotRight ≡ Fine
     unfolding rightTest
-    right-lines w s = s ∙ rw (← p, ← n, ← x, z, ← q, ← k, ← y, w)
-
--- the checker's last ground
-module _ (r t : Bool) (p : r ≡ t) where
-  pub refused-not-right : r ≡ false → refuseIf (not t) NotRight ≡ Refused NotRight
-  refused-not-right z = rw (← p, z)
-
-  pub accepted-right : r ≡ true → refuseIf (not t) NotRight ≡ Fine
-  accepted-right z = rw (← p, z)
+    accepted-right w = rw (← p, ← q, ← n, ← k, ← x, z, ← y, w)

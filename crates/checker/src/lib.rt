@@ -1,29 +1,29 @@
 // The checker: whether a table is right for a pattern list.
 use base::Check;
 use base::Ground;
+use rightness::Beside;
+use rightness::Node;
 use table::Entry;
 use table::Look;
 ghost use mathlib.Core.Path.{_≡_};
-ghost use mathlib.Core.Bool.{cond, _||_};
 ghost use mathlib.Core.List.{[]};
-ghost use Prim.Native.Nat.{_≤_, _<_, suc};
-ghost use lib.Dec.{leb, ltb, eqb};
+ghost use Prim.Native.Nat.{_≤_, _<_};
 ghost use lib.ListN.{length};
 ghost use Rattle.base.specs.Grounds.{Finds, says, firstOf};
-ghost use Rattle.base.specs.Limits.{symbols, patternLimit};
+ghost use Rattle.base.specs.Limits.{patternLimit};
 ghost use Rattle.words.specs.Symbols.{symbolsOf};
 ghost use Rattle.lists.specs.Lists.{judgeLines};
 ghost use Rattle.lists.specs.declared.Form.{Form};
 ghost use Rattle.lists.specs.declared.Lines.{Lines};
 ghost use Rattle.liang.specs.Patterns.{levelsFrom, patternsOf};
-ghost use Rattle.table.specs.Table.{cellCount, entryCount, cellsOf, entriesOf};
-ghost use Rattle.right.specs.Right.{sound};
-ghost use Rattle.right.specs.Test.{kindsFrom, exactTest, childAt, noneBetween, passedOver, follow, rootAt, patternsRight, rightTest, checkGrounds};
+ghost use Rattle.table.specs.Table.{cellSize};
+ghost use Rattle.trie.specs.Sound.{sound};
+ghost use Rattle.rightness.specs.Test.{kindsFrom, kindsTest, exactTest, noneBetween, passedOver, follow, rootAt, pathsTest, checkGrounds};
 ghost use Rattle.checker.specs.Post.{sameLevels};
 
 // The kinds of so many records that stand size bytes apart.
-fn are_kinds(bytes: &[u8], size: u8, kind: u8, count: u16) -> bool
-    requires { ⌜ 0 < kind ⌝ }
+fn are_kinds(bytes: &[u8], size: usize, kind: u8, count: u16) -> bool
+    requires { ⌜ (0 < kind) × (size ≤ cellSize) ⌝ }
     ensures { λ r. ⌜ r ≡ kindsFrom size kind (now (bytes .entry)) 0 count ⌝ }
 {
     let mut at: usize = 0;
@@ -35,10 +35,18 @@ fn are_kinds(bytes: &[u8], size: u8, kind: u8, count: u16) -> bool
         if bytes[at] != kind {
             return false;
         }
-        at += size as usize;
+        at += size;
         n += 1;
     }
     true
+}
+
+// Do a table's cells and entries have their kinds?
+fn has_kinds(cells: &[u8], entries: &[u8], c: u16, e: u16) -> bool
+    ensures { λ r. ⌜ r ≡ kindsTest (now (cells .entry)) (now (entries .entry)) c e ⌝ }
+{
+    are_kinds(cells, table::CELL_SIZE, table::CELL_KIND, c)
+        && are_kinds(entries, table::ENTRY_SIZE, table::ENTRY_KIND, e)
 }
 
 // A chain without a fault, for a path of m symbols. The number falls at each call, the last thing done, which takes no stack.
@@ -73,7 +81,7 @@ fn is_sound(entries: &&[u8], k: u16, m: usize) -> bool
 }
 
 // Do the levels of a chain, in a room as walk::chain_levels leaves it, agree with a line's?
-fn are_levels(line: &[u8], room: &[u8; base::ROOM]) -> bool
+fn are_levels(line: &[u8], room: &[u8; base::ROOM_SIZE]) -> bool
     requires { ⌜ length (symbolsOf (now line)) ≤ patternLimit ⌝ }
     ensures { λ r. ⌜ r ≡ sameLevels (now (room .entry)) 0 (levelsFrom 0 (now (line .entry))) ⌝ }
 {
@@ -106,31 +114,21 @@ fn is_exact(entries: &[u8], line: &[u8], m: usize, output: u16) -> bool
     if !is_sound(&entries, output, m) {
         return false;
     }
-    let mut room = [0u8; base::ROOM];
+    let mut room = [0u8; base::ROOM_SIZE];
     walk::chain_levels(entries, output, m as u8, &mut room);
     are_levels(line, &room)
 }
 
-// How the table goes on from a node with a symbol.
-fn child_at(cells: &[u8], leaf: bool, base: u16, symbol: u8) -> Look
-    ensures { λ r. ⌜ r ≡ childAt (now (cells .entry)) (record { leaf = leaf; base = base }) symbol ⌝ }
-{
-    if leaf {
-        return Look::Miss;
-    }
-    table::look_at(cells, base, symbol)
-}
-
 // Does the table go on from a node with no symbol between two others?
-fn is_none_between(cells: &[u8], leaf: bool, base: u16, low: u8, high: u8) -> bool
-    ensures { λ r. ⌜ r ≡ noneBetween (now (cells .entry)) (record { leaf = leaf; base = base }) low high ⌝ }
+fn is_none_between(cells: &[u8], node: Node, low: u8, high: u8) -> bool
+    ensures { λ r. ⌜ r ≡ noneBetween (now (cells .entry)) node low high ⌝ }
 {
-    if leaf {
+    if node.leaf {
         return true;
     }
     let mut symbol = low as u16 + 1;
     while symbol < high as u16 {
-        let found = table::look_at(cells, base, symbol as u8);
+        let found = table::look_at(cells, node.base, symbol as u8);
         if let Look::Hit { link: _, output: _ } = found {
             return false; // a path that the list hasn't
         }
@@ -139,106 +137,31 @@ fn is_none_between(cells: &[u8], leaf: bool, base: u16, low: u8, high: u8) -> bo
     true // nothing matches
 }
 
-// The symbols below s that the list passes over at a node of m symbols.
-fn is_clear_below(
-    cells: &[u8],
-    known: usize,
-    low: u8,
-    leaf: bool,
-    base: u16,
-    m: usize,
-    s: u8,
-) -> bool
-    ensures { λ r. ⌜ r ≡ (ltb m known || noneBetween (now (cells .entry)) (record { leaf = leaf; base = base }) (cond (eqb m known) low 0) s) ⌝ }
+// Does the table go on with none of the symbols that the list passes over at the node of m symbols of a line that goes on with s?
+// Below s they begin behind the symbol with which the line above left the node, or with the first where it hasn't the node. Above s
+// they are passed over where the line below hasn't the node.
+fn is_passed_over(cells: &[u8], beside: Beside, node: Node, m: usize, s: u8) -> bool
+    ensures { λ r. ⌜ r ≡ passedOver (now (cells .entry)) beside node m s ⌝ }
 {
-    if m < known {
-        return true;
-    }
-    if m == known {
-        return is_none_between(cells, leaf, base, low, s);
-    }
-    is_none_between(cells, leaf, base, 0, s)
-}
-
-// The symbols above s that the list passes over there.
-fn is_clear_above(cells: &[u8], kept: usize, leaf: bool, base: u16, m: usize, s: u8) -> bool
-    ensures { λ r. ⌜ r ≡ (leb m kept || noneBetween (now (cells .entry)) (record { leaf = leaf; base = base }) s (suc symbols)) ⌝ }
-{
-    if m <= kept {
-        return true;
-    }
-    is_none_between(cells, leaf, base, s, base::SYMBOLS + 1)
-}
-
-// Both.
-fn is_passed_over(
-    cells: &[u8],
-    known: usize,
-    low: u8,
-    kept: usize,
-    leaf: bool,
-    base: u16,
-    m: usize,
-    s: u8,
-) -> bool
-    ensures { λ r. ⌜ r ≡ passedOver (now (cells .entry)) (record { known = known; low = low; kept = kept }) (record { leaf = leaf; base = base }) m s ⌝ }
-{
-    if !is_clear_below(cells, known, low, leaf, base, m, s) {
+    if m == beside.known && !is_none_between(cells, node, beside.low, s) {
         return false;
     }
-    is_clear_above(cells, kept, leaf, base, m, s)
-}
-
-// The output of a beginning of m symbols that isn't a whole pattern.
-fn is_silent(known: usize, m: usize, output: u16) -> bool
-    ensures { λ r. ⌜ r ≡ (leb m known || eqb output 0) ⌝ }
-{
-    if m <= known {
-        return true;
-    }
-    output == 0
-}
-
-// A whole pattern line at its node: its output, and how the table goes on.
-fn is_end_right(
-    cells: &[u8],
-    entries: &[u8],
-    own: &[u8],
-    known: usize,
-    low: u8,
-    kept: usize,
-    leaf: bool,
-    base: u16,
-    m: usize,
-    output: u16,
-) -> bool
-    requires { ⌜ (m ≡ length (symbolsOf (now own))) × (m ≤ patternLimit) ⌝ }
-    ensures { λ r. ⌜ r ≡ follow (now (cells .entry)) (now (entries .entry)) (levelsFrom 0 (now (own .entry))) (record { known = known; low = low; kept = kept }) (record { leaf = leaf; base = base }) output m [] ⌝ }
-{
-    if !is_exact(entries, own, m, output) {
+    if beside.known < m && !is_none_between(cells, node, 0, s) {
         return false;
     }
-    if base::PATTERN_LIMIT <= m {
-        return true;
-    }
-    is_passed_over(cells, known, low, kept, leaf, base, m, 0)
+    m <= beside.kept || is_none_between(cells, node, s, base::SYMBOL_LIMIT + 1)
 }
 
-// A pattern line followed through the table, between what it shares with its neighbours.
-fn is_followed(
-    cells: &[u8],
-    entries: &[u8],
-    root: u16,
-    own: &[u8],
-    known: usize,
-    low: u8,
-    kept: usize,
-) -> bool
+// A pattern line followed through the table, between what it shares with its neighbours. The output of a beginning that the line
+// above hasn't is 0, and that of the whole line exact.
+fn is_followed(cells: &[u8], entries: &[u8], root: u16, own: &[u8], beside: Beside) -> bool
     requires { ⌜ length (symbolsOf (now own)) ≤ patternLimit ⌝ }
-    ensures { λ r. ⌜ r ≡ follow (now (cells .entry)) (now (entries .entry)) (levelsFrom 0 (now (own .entry))) (record { known = known; low = low; kept = kept }) (rootAt root) 0 0 (symbolsOf (now (own .entry))) ⌝ }
+    ensures { λ r. ⌜ r ≡ follow (now (cells .entry)) (now (entries .entry)) (levelsFrom 0 (now (own .entry))) beside (rootAt root) 0 0 (symbolsOf (now (own .entry))) ⌝ }
 {
-    let mut leaf = false;
-    let mut base = root;
+    let mut node = Node {
+        leaf: false,
+        base: root,
+    };
     let mut output: u16 = 0;
     let mut m: usize = 0;
     let mut i = 0;
@@ -246,29 +169,41 @@ fn is_followed(
         let symbol = words::symbol_of(own[i]);
         i += 1;
         if symbol != 0 {
-            if !is_silent(known, m, output) {
+            if beside.known < m && output != 0 {
                 return false;
             }
-            if !is_passed_over(cells, known, low, kept, leaf, base, m, symbol) {
+            if !is_passed_over(cells, beside, node, m, symbol) {
                 return false;
             }
-            let found = child_at(cells, leaf, base, symbol);
+            if node.leaf {
+                return false;
+            }
+            let found = table::look_at(cells, node.base, symbol);
             let Look::Hit { link, output: next } = found else {
                 return false;
             };
-            leaf = link == 0;
-            base = link;
+            node = Node {
+                leaf: link == 0,
+                base: link,
+            };
             output = next;
             m += 1;
         }
     }
-    is_end_right(cells, entries, own, known, low, kept, leaf, base, m, output)
+    if !is_exact(entries, own, m, output) {
+        return false;
+    }
+    if base::PATTERN_LIMIT <= m {
+        return true;
+    }
+    is_passed_over(cells, beside, node, m, 0)
 }
 
-// Every line of a good text followed through the table; behind the last one, the root goes on with no further symbol.
-fn are_lines_right(cells: &[u8], entries: &[u8], root: u16, text: &[u8]) -> bool
+// Are a table's paths from a root right for a good text? Every line is followed through the table; behind the last one, the root
+// goes on with no further symbol.
+fn is_right(text: &[u8], cells: &[u8], entries: &[u8], root: u16) -> bool
     requires { ⌜ judgeLines Form.Patterns (now text) ≡ Lines.Good ⌝ }
-    ensures { λ r. ⌜ r ≡ patternsRight (now (cells .entry)) (now (entries .entry)) root [] (patternsOf (now (text .entry))) ⌝ }
+    ensures { λ r. ⌜ r ≡ pathsTest (patternsOf (now (text .entry))) (now (cells .entry)) (now (entries .entry)) root ⌝ }
 {
     let mut known: usize = 0;
     let mut low: u8 = 0;
@@ -277,15 +212,12 @@ fn are_lines_right(cells: &[u8], entries: &[u8], root: u16, text: &[u8]) -> bool
     while at < text.len() {
         let next = lines::line_end(text, end);
         let below = patterns::part_lines(&text[at..end], &text[end..next]);
-        if !is_followed(
-            cells,
-            entries,
-            root,
-            &text[at..end],
-            known,
-            low,
-            below.shared,
-        ) {
+        let beside = Beside {
+            known: known,
+            low: low,
+            kept: below.shared,
+        };
+        if !is_followed(cells, entries, root, &text[at..end], beside) {
             return false;
         }
         known = below.shared;
@@ -293,23 +225,11 @@ fn are_lines_right(cells: &[u8], entries: &[u8], root: u16, text: &[u8]) -> bool
         at = end;
         end = next;
     }
-    is_none_between(cells, false, root, low, base::SYMBOLS + 1)
-}
-
-// Is a judged table right for a judged list?
-fn is_right(text: &[u8], table: &[u8], root: u16) -> bool
-    requires { ⌜ judgeLines Form.Patterns (now text) ≡ Lines.Good ⌝ }
-    ensures { λ r. ⌜ r ≡ rightTest (patternsOf (now (text .entry))) (cellsOf (now (table .entry))) (entriesOf (now (table .entry))) root (cellCount (now (table .entry))) (entryCount (now (table .entry))) ⌝ }
-{
-    let cells = table::cells_of(table);
-    let entries = table::entries_of(table);
-    if !are_kinds(cells, 6, 2, table::cell_count(table)) {
-        return false;
-    }
-    if !are_kinds(entries, 5, 3, table::entry_count(table)) {
-        return false;
-    }
-    are_lines_right(cells, entries, root, text)
+    let node = Node {
+        leaf: false,
+        base: root,
+    };
+    is_none_between(cells, node, low, base::SYMBOL_LIMIT + 1)
 }
 
 // The checker: 8, 7, 9, 12; it accepts where nothing is refused.
@@ -324,8 +244,18 @@ pub fn check(text: &[u8], table: &[u8]) -> Check
     if let Check::Refused(g) = form {
         return Check::Refused(g);
     }
-    if !is_right(text, table, 0) {
-        return Check::Refused(Ground::NotRight);
+    let cells = table::cells_of(table);
+    let entries = table::entries_of(table);
+    if !has_kinds(
+        cells,
+        entries,
+        table::cell_count(table),
+        table::entry_count(table),
+    ) {
+        return Check::Refused(Ground::NotRight); // a record of another kind
+    }
+    if !is_right(text, cells, entries, table::ROOT_BASE) {
+        return Check::Refused(Ground::NotRight); // other paths than the list's
     }
     Check::Fine
 }

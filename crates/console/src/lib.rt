@@ -80,7 +80,7 @@ pub fn read_argument(i: usize, bytes: &mut [u8]) -> Read
 
 // A list, a table or a packing is refused: "!", number and place.
 pub fn print_refusal(ground: Ground) {
-    let mut line = [0u8; report::LINE];
-    let end = report::put_refusal(33, ground, &mut line, 0);
+    let mut line = [0u8; report::LINE_LIMIT];
+    let end = report::put_refusal(writing::EXCLAMATION, ground, &mut line, 0);
     io::write_all(1, &line[0..end]);
 }

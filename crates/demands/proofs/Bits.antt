@@ -1,5 +1,5 @@
 -- The C interface loses nothing: what the header's accessors read of a returned number is what the call answers.
-use Prim.Native.Nat.{ℕ, suc, _+_, _*_, _-_, _≤_, _<_}
+use Prim.Native.Nat.{ℕ, _+_, _*_, _-_, _≤_, _<_}
 use mathlib.Core.Bool.{Bool, true, false, cond, not, _&&_, _||_}
 use mathlib.Core.List.{List, [], _∷_}
 use mathlib.Core.Path.{_≡_, refl, sym, _∙_}
@@ -7,14 +7,17 @@ use native.Mathlib.Omega.{arith}
 use borrow.Author.Tests.{ltb-false, leb-true, eqb-true, not-false}
 use lib.Dec.{ltb, leb, eqb}
 use lib.ListN.{length, getD}
-use Rattle.base.specs.Limits.{wordLimit, roomSize, patternLimit, patternText, exceptionText, customerList, houseList, cells, entries, packRoom}
+use Rattle.base.specs.Limits.{wordLimit, roomSize, patternLimit, patternText, exceptionText, customerList, houseList, cellLimit, entryLimit, packRoom}
 use Rattle.base.specs.Grounds.{told, first, refuseIf}
 use Rattle.base.specs.declared.Check.{Check}
 use Rattle.base.specs.declared.Check.the-variants.{Fine, Refused}
 use Rattle.base.specs.declared.Ground.{Ground}
 use Rattle.base.specs.declared.Ground.the-variants.{Margin, WordEmpty, NotLetter, WordLong, RoomShort, BadException, BadPattern, TextLong, TableForm, PackRoomShort, NoFit, NotRight}
 use Rattle.base.proofs.Grounds.{both-fine, not-refused}
-use Rattle.base.proofs.Lists.{never}
+use Rattle.base.proofs.Lists.{clash, both}
+use Rattle.rooms.specs.Rooms.{isShort, sheet, nonzero}
+use Rattle.rooms.proofs.Sheets.{sheet-length}
+use Rattle.rooms.proofs.Laws.{nonzero-few}
 use Rattle.words.specs.Symbols.{letter, symbolsOf}
 use Rattle.words.specs.Words.{allLetters, judgeWord}
 use Rattle.lines.specs.Lines.{cut}
@@ -30,15 +33,13 @@ use Rattle.lookup.specs.Lookup.{judgeLookup, locate}
 use Rattle.lookup.proofs.Laws.{total, total-cut, located-customer, located-house, locate-refused}
 use Rattle.liang.specs.Breaks.{badMargin}
 use Rattle.liang.specs.Patterns.{patternsOf}
-use Rattle.table.specs.Table.{headSize, headKind, edition, cellSize, entrySize, cellCount, entryCount, formed, judgeTable, cellsOf, entriesOf}
-use Rattle.right.specs.Test.{rightTest, judgeCheck}
-use Rattle.hyphenation.specs.Sheet.{sheet, nonzero}
+use Rattle.table.specs.Table.{rootBase, headSize, headKind, edition, cellSize, entrySize, cellCount, entryCount, formed, judgeTable, cellsOf, entriesOf}
+use Rattle.rightness.specs.Test.{rightFor, judgeCheck}
 use Rattle.hyphenation.specs.Levels.{levelSheet, wordLooks}
 use Rattle.hyphenation.specs.Breaks.{breakSheet}
-use Rattle.hyphenation.specs.Calls.{rootBase, judgeRoom, judgeMargins, judgeLevels, judgeHyphenate, answer, levelsAnswer, breaksSheet, breaksLooks, breaksAnswer}
+use Rattle.hyphenation.specs.Calls.{judgeRoom, judgeMargins, judgeLevels, judgeHyphenate, answer, levelsAnswer, breaksSheet, breaksLooks, breaksAnswer}
 use Rattle.hyphenation.specs.declared.Answer.{Answer}
 use Rattle.hyphenation.specs.declared.Answer.the-variants as answers
-use Rattle.hyphenation.proofs.Laws.{sheet-length}
 use Rattle.words.proofs.Laws.{word-fits}
 use Rattle.hyphenation.proofs.Calls.{levels-sizes, breaks-sizes}
 use Rattle.hyphenation.proofs.Theorems.{word-few, breaks-few}
@@ -176,7 +177,7 @@ table-small table = small-if (not (formed table)) TableForm (plain TableForm ref
 
 room-small : (size : ℕ) → SmallCheck (judgeRoom size)
 unfolding judgeRoom
-room-small size = small-if (ltb size roomSize) RoomShort (plain RoomShort refl refl)
+room-small size = small-if (isShort roomSize size) RoomShort (plain RoomShort refl refl)
 
 margins-small : (left right : ℕ) → SmallCheck (judgeMargins left right)
 unfolding judgeMargins
@@ -199,26 +200,17 @@ unfolding judgeCheck
 check-small text table =
     small-first (judgePatterns text) _ (patterns-small text)
     (small-first (judgeTable table) _ (table-small table)
-    (small-if (not (rightTest (patternsOf text) (cellsOf table) (entriesOf table) 0 (cellCount table) (entryCount table))) NotRight (plain NotRight refl refl)))
+    (small-if (not (rightFor text table)) NotRight (plain NotRight refl refl)))
 
 pack-small : (text : List ℕ) (size : ℕ) → SmallCheck (judgePack text size)
 unfolding judgePack
 pack-small text size =
-    small-first (refuseIf (ltb size packRoom) PackRoomShort) (judgePatterns text) (small-if (ltb size packRoom) PackRoomShort (plain PackRoomShort refl refl)) (patterns-small text)
+    small-first (refuseIf (isShort packRoom size) PackRoomShort) (judgePatterns text) (small-if (isShort packRoom size) PackRoomShort (plain PackRoomShort refl refl)) (patterns-small text)
 
 -- What is read of an answer's bits.
 pub ReadsAnswer : Answer → ℕ → Type 0
 ReadsAnswer (answers.Found marks looks) bits = (numberIn bits ≡ 0) × (marksIn bits ≡ marks) × (looksIn bits ≡ looks)
 ReadsAnswer (answers.Refused g) bits = ReadsRefusal g bits
-
-nonzero-few : (bytes : List ℕ) → nonzero bytes ≤ length bytes
-unfolding nonzero
-nonzero-few [] = omega arith
-nonzero-few (b ∷ bytes) = go (eqb b 0) (nonzero-few bytes)
-  where
-    go : (z : Bool) → nonzero bytes ≤ length bytes → cond z (nonzero bytes) (1 + nonzero bytes) ≤ suc (length bytes)
-    go true h = omega arith
-    go false h = omega arith
 
 -- an answer by its judgement, where the finding's two numbers fit
 reads-answer : (judged : Check) (bytes : List ℕ) (looks : ℕ) → SmallCheck judged → length bytes ≡ roomSize → (judged ≡ Fine → looks < 4294967296)
@@ -265,23 +257,19 @@ check-bits text table = go (judgeCheck text table) (check-small text table)
     go (Refused g) s = reads-refusal g s
 
 -- a table that passes ground 9 is short
-and-both : (a b : Bool) → (a && b) ≡ true → (a ≡ true) × (b ≡ true)
-and-both true b e = (refl, e)
-and-both false b e = never e
-
 formed-short : (table : List ℕ) → formed table ≡ true → length table ≤ packRoom
 unfolding formed
 formed-short table e =
-    let a = and-both (leb headSize (length table)) _ e in
-    let b = and-both (eqb (getD table 0 0) headKind) _ (a .1) in
-    let c = and-both (eqb (getD table 1 0) edition) _ (b .1) in
-    let d = and-both (leb 1 (cellCount table)) _ (c .1) in
-    let f = and-both (leb (cellCount table) cells) _ (d .1) in
-    let g = and-both (leb (entryCount table) entries) _ (f .1) in
+    let a = both (leb headSize (length table)) _ e in
+    let b = both (eqb (getD table 0 0) headKind) _ (a .1) in
+    let c = both (eqb (getD table 1 0) edition) _ (b .1) in
+    let d = both (leb 1 (cellCount table)) _ (c .1) in
+    let f = both (leb (cellCount table) cellLimit) _ (d .1) in
+    let g = both (leb (entryCount table) entryLimit) _ (f .1) in
     omega (
       arith,
-      leb-true (cellCount table) cells (f .0),
-      leb-true (entryCount table) entries (g .0),
+      leb-true (cellCount table) cellLimit (f .0),
+      leb-true (entryCount table) entryLimit (g .0),
       eqb-true (length table) (headSize + cellSize * cellCount table + entrySize * entryCount table) (g .1),
     )
 
@@ -310,10 +298,10 @@ pack-bits text size = go (judgePack text size) refl (pack-small text size) (firs
 
 -- two answers of the lookup told apart
 nowhere-customer : {start end : ℕ} → Customer start end ≡ Nowhere → ⊥
-nowhere-customer e = let z : _≡_ {A = ℕ} 0 1 = cc in omega arith
+nowhere-customer e = clash cc
 
 nowhere-house : {start end : ℕ} → House start end ≡ Nowhere → ⊥
-nowhere-house e = let z : _≡_ {A = ℕ} 0 1 = cc in omega arith
+nowhere-house e = clash cc
 
 -- The lookup's bits say where the line is: no list where there is none.
 pub ReadsLine : ℕ → ℕ → ℕ → ℕ → Type 0

@@ -8,21 +8,23 @@ use mathlib.Core.Logic.{_↔_}
 use mathlib.Core.Path.{_≡_, refl, sym, _∙_, ap}
 use lib.Dec.{eqb}
 use lib.ListN.{length}
+use Rattle.base.specs.Limits.{packRoom}
 use Rattle.base.specs.Grounds.{Told, Said, Finds, Refuses, says, Row, firstOf, numbersOf, isFinding, anyHolds, oneOf}
 use Rattle.base.specs.Orders.{hyphenateOrder, levelsOrder, packOrder, checkOrder, lookupOrder}
 use Rattle.base.specs.declared.Check.{Check}
 use Rattle.base.proofs.Order.{Chosen, finding-exactly, refuses-first, refuses-listed, none-found, some-refused}
+use Rattle.rooms.specs.Rooms.{filled}
 use Rattle.words.specs.Words.{wordGrounds}
 use Rattle.lists.specs.Lists.{patternGrounds, listGrounds}
 use Rattle.lookup.specs.Find.{findEither}
 use Rattle.lookup.specs.Lookup.{lookupGrounds, lineSaid, valuesOf, lookupSaid}
 use Rattle.liang.specs.Patterns.{patternsOf}
 use Rattle.table.specs.Table.{tableGrounds}
-use Rattle.right.specs.Test.{checkGrounds}
+use Rattle.rightness.specs.Test.{checkGrounds}
 use Rattle.fit.specs.Table.{firstFit}
 use Rattle.hyphenation.specs.Calls.{roomGrounds, marginGrounds, levelsGrounds, hyphenateGrounds, answerSaid, roomLeft, Answers, Levels, Breaks}
 use Rattle.hyphenation.specs.declared.Answer.{Answer}
-use Rattle.packer.specs.Pack.{packGrounds, fitBytes, packingSaid, packSaid, packedRoom, packLeft, Packs}
+use Rattle.packer.specs.Pack.{packGrounds, fitBytes, packingSaid, packSaid, packLeft, Packs}
 use Rattle.packer.specs.declared.Packing.{Packing}
 
 -- What demand 1 says of one answer of a call with this order of grounds.
@@ -85,10 +87,10 @@ module _ (text room after : List ℕ) (r : Packing) (p : Packs text room r after
 
   -- "Refusals leave lent memory untouched, except 11, which sets the pack room's first 59,398 bytes to zero."
   pub pack-refused : (t : Told) → packingSaid r ≡ Refuses t → eqb (t .number) 11 ≡ false → after ≡ room
-  pack-refused t e n = p .memory ∙ ap (λ (s : Said). packLeft s (fitBytes (firstFit (patternsOf text))) room) (sym (p .answered) ∙ e) ∙ ap (λ (z : Bool). cond z (packedRoom [] room) room) n
+  pack-refused t e n = p .memory ∙ ap (λ (s : Said). packLeft s (fitBytes (firstFit (patternsOf text))) room) (sym (p .answered) ∙ e) ∙ ap (λ (z : Bool). cond z (filled packRoom [] room) room) n
 
-  pub pack-no-room : (t : Told) → packingSaid r ≡ Refuses t → eqb (t .number) 11 ≡ true → after ≡ packedRoom [] room
-  pack-no-room t e n = p .memory ∙ ap (λ (s : Said). packLeft s (fitBytes (firstFit (patternsOf text))) room) (sym (p .answered) ∙ e) ∙ ap (λ (z : Bool). cond z (packedRoom [] room) room) n
+  pub pack-no-room : (t : Told) → packingSaid r ≡ Refuses t → eqb (t .number) 11 ≡ true → after ≡ filled packRoom [] room
+  pack-no-room t e n = p .memory ∙ ap (λ (s : Said). packLeft s (fitBytes (firstFit (patternsOf text))) room) (sym (p .answered) ∙ e) ∙ ap (λ (z : Bool). cond z (filled packRoom [] room) room) n
 
 -- The checker, which is lent no memory to write.
 pub check-order : (text table : List ℕ) → numbersOf (checkGrounds text table) ≡ checkOrder

@@ -1,7 +1,9 @@
 pub mod Grounds
+pub mod Liang
 pub mod Accepted
 pub mod Breaks
 pub mod Walks
 pub mod Unreached
+pub mod Fitted
 pub mod Packed
 pub mod Bits

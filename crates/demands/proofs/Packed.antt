@@ -1,27 +1,26 @@
 -- The packer finishes the first-fit table, and what it finishes is accepted with its list.
-use Prim.Native.Nat.{ℕ, _-_, _<_}
-use mathlib.Core.List.{List, _++_}
+use Prim.Native.Nat.{ℕ, _<_}
+use mathlib.Core.List.{List}
 use mathlib.Core.Logic.{_⊎_, _↔_}
 use mathlib.Core.Path.{_≡_, refl, sym, _∙_, ap}
-use native.Mathlib.Omega.{arith}
 use borrow.Author.Tests.{eq-eqb}
-use lib.Dec.{ltb}
-use lib.ListN.{length, take, drop, replicate}
-use lib.Seq.{take-at}
-use Rattle.base.specs.Limits.{packRoom, cells, entries}
+use lib.ListN.{length, take}
+use Rattle.base.specs.Limits.{packRoom, cellLimit, entryLimit}
 use Rattle.base.specs.declared.Check.{Check}
 use Rattle.base.specs.declared.Check.the-variants.{Fine, Refused}
 use Rattle.base.specs.declared.Ground.the-variants.{PackRoomShort, NoFit}
 use Rattle.base.specs.Grounds.{Told, plain, told, Refuses, refuseIf}
-use Rattle.base.proofs.Lists.{never}
+use Rattle.base.proofs.Lists.{clash, never}
 use Rattle.base.proofs.Grounds.{both-fine, refuses-once, no-refusal}
+use Rattle.rooms.specs.Rooms.{isShort}
+use Rattle.rooms.proofs.Laws.{filled-begins}
 use Rattle.lists.specs.Lists.{judgePatterns}
 use Rattle.liang.specs.Patterns.{patternsOf}
-use Rattle.right.specs.Test.{judgeCheck}
-use Rattle.acceptance.proofs.Theorems.{acceptance}
+use Rattle.rightness.specs.Test.{judgeCheck}
+use Rattle.decision.proofs.Theorems.{acceptance}
 use Rattle.patterns.proofs.Good.{good-sorted, good-patterns, good-levels}
 use Rattle.fit.specs.Table.{Fit, NoRoom, Packed, firstFit}
-use Rattle.fitted.proofs.Fitted.{fitted}
+use Rattle.demands.proofs.Fitted.{fitted}
 use Rattle.layout.specs.Bases.{cellsNeeded}
 use Rattle.layout.specs.Entries.{entriesNeeded}
 use Rattle.layout.specs.Table.{layoutTable}
@@ -29,11 +28,11 @@ use Rattle.layout.proofs.Theorems.{no-room-exactly, packed-is-layout}
 use Rattle.packer.specs.declared.Packing.{Packing}
 use Rattle.packer.specs.declared.Packing.the-variants as packings
 use Rattle.packer.proofs.Order.{early-number, computed}
-use Rattle.packer.specs.Pack.{packingSaid, judgePack, packing, packedRoom, packedAfter, Packs}
+use Rattle.packer.specs.Pack.{packingSaid, judgePack, packing, packedAfter, Packs}
 
 pub judged-patterns : (text : List ℕ) (size : ℕ) → judgePack text size ≡ Fine → judgePatterns text ≡ Fine
 unfolding judgePack
-judged-patterns text size e = both-fine (refuseIf (ltb size packRoom) PackRoomShort) (judgePatterns text) e .1
+judged-patterns text size e = both-fine (refuseIf (isShort packRoom size) PackRoomShort) (judgePatterns text) e .1
 
 -- a first-fit table of a good list is accepted with it
 pub fit-accepted : (text table : List ℕ) → judgePatterns text ≡ Fine → firstFit (patternsOf text) ≡ Packed table → judgeCheck text table ≡ Fine
@@ -41,14 +40,10 @@ fit-accepted text table fine e =
     let good = fitted (patternsOf text) (good-sorted text fine) (good-patterns text fine) (good-levels text fine) table e in
     acceptance text table .1 (fine, good .formed, good .right)
 
-room-begins : (table room : List ℕ) → take (length table) (packedRoom table room) ≡ table
-unfolding packedRoom
-room-begins table room = take-at table (replicate (packRoom - length table) 0 ++ drop packRoom room) (length table) refl
-
 -- "Where no ground of its own holds, our packer finishes document 01's first-fit table"
 pub packer-finishes : (text room after table : List ℕ) {r : Packing} → Packs text room r after → judgePack text (length room) ≡ Fine → firstFit (patternsOf text) ≡ Packed table
     → (r ≡ packings.Done (length table)) × (take (length table) after ≡ table)
-packer-finishes text room after table p j f = (computed text room p .answered ∙ rw (j, f), ap (take (length table)) (computed text room p .memory ∙ rw (j, f)) ∙ room-begins table room)
+packer-finishes text room after table p j f = (computed text room p .answered ∙ rw (j, f), ap (take (length table)) (computed text room p .memory ∙ rw (j, f)) ∙ filled-begins packRoom table room)
 
 -- "and every table it finishes is accepted with its list"
 pub packed-accepted : (text room after : List ℕ) (size : ℕ) → Packs text room (packings.Done size) after → judgeCheck text (take size after) ≡ Fine
@@ -56,15 +51,15 @@ packed-accepted text room after size p = go (judgePack text (length room)) refl 
   where
     go : (v : Check) → judgePack text (length room) ≡ v → (fit : Fit) → firstFit (patternsOf text) ≡ fit → packings.Done size ≡ packing v fit → after ≡ packedAfter v fit room
         → judgeCheck text (take size after) ≡ Fine
-    go (Refused g) j fit f a m = let w : _≡_ {A = ℕ} 0 1 = cc in absurd (omega arith)
-    go Fine j NoRoom f a m = let w : _≡_ {A = ℕ} 0 1 = cc in absurd (omega arith)
+    go (Refused g) j fit f a m = clash cc
+    go Fine j NoRoom f a m = clash cc
     go Fine j (Packed table) f a m =
         let n : size ≡ length table = cc in
-        rw (m, n, room-begins table room) (fit-accepted text table (judged-patterns text (length room) j) f)
+        rw (m, n, filled-begins packRoom table room) (fit-accepted text table (judged-patterns text (length room) j) f)
 
 -- what the layout says of a good list
 module _ (text : List ℕ) (fine : judgePatterns text ≡ Fine) where
-  text-no-room : (firstFit (patternsOf text) ≡ NoRoom) ↔ ((cells < cellsNeeded (patternsOf text)) ⊎ (entries < entriesNeeded (patternsOf text)))
+  text-no-room : (firstFit (patternsOf text) ≡ NoRoom) ↔ ((cellLimit < cellsNeeded (patternsOf text)) ⊎ (entryLimit < entriesNeeded (patternsOf text)))
   text-no-room = no-room-exactly (patternsOf text) (good-sorted text fine) (good-patterns text fine) (good-levels text fine)
 
 -- "The packer writes exactly the first-fit table for a list": what it finishes is the layout, byte for byte.
@@ -74,8 +69,8 @@ packer-writes text room after size p = go (judgePack text (length room)) refl (f
   where
     go : (v : Check) → judgePack text (length room) ≡ v → (fit : Fit) → firstFit (patternsOf text) ≡ fit → packings.Done size ≡ packing v fit
         → (size ≡ length (layoutTable (patternsOf text))) × (take size after ≡ layoutTable (patternsOf text))
-    go (Refused g) j fit f a = let w : _≡_ {A = ℕ} 0 1 = cc in absurd (omega arith)
-    go Fine j NoRoom f a = let w : _≡_ {A = ℕ} 0 1 = cc in absurd (omega arith)
+    go (Refused g) j fit f a = clash cc
+    go Fine j NoRoom f a = clash cc
     go Fine j (Packed table) f a =
         let fine = judged-patterns text (length room) j in
         let e : table ≡ layoutTable (patternsOf text) = packed-is-layout (patternsOf text) (good-sorted text fine) (good-patterns text fine) (good-levels text fine) table f in
@@ -86,7 +81,7 @@ packer-writes text room after size p = go (judgePack text (length room)) refl (f
 -- 2,048.
 pub packer-no-room : (text room after : List ℕ) (r : Packing) → Packs text room r after
     → (packingSaid r ≡ Refuses (plain 11))
-    ↔ ((judgePack text (length room) ≡ Fine) × ((cells < cellsNeeded (patternsOf text)) ⊎ (entries < entriesNeeded (patternsOf text))))
+    ↔ ((judgePack text (length room) ≡ Fine) × ((cellLimit < cellsNeeded (patternsOf text)) ⊎ (entryLimit < entriesNeeded (patternsOf text))))
 unfolding packingSaid
 packer-no-room text room after r p = (λ e. only (judgePack text (length room)) refl (firstFit (patternsOf text)) refl e, λ h. when (h .0) (h .1))
   where
@@ -94,7 +89,7 @@ packer-no-room text room after r p = (λ e. only (judgePack text (length room)) 
     answered = computed text room p .answered
 
     only : (v : Check) → judgePack text (length room) ≡ v → (fit : Fit) → firstFit (patternsOf text) ≡ fit → packingSaid r ≡ Refuses (plain 11)
-        → (judgePack text (length room) ≡ Fine) × ((cells < cellsNeeded (patternsOf text)) ⊎ (entries < entriesNeeded (patternsOf text)))
+        → (judgePack text (length room) ≡ Fine) × ((cellLimit < cellsNeeded (patternsOf text)) ⊎ (entryLimit < entriesNeeded (patternsOf text)))
     only (Refused g) j fit f e =
         let a : r ≡ packings.Refused g = answered ∙ rw j in
         let n : told g .number ≡ 11 = ap (λ (t : Told). t .number) (refuses-once (sym (ap packingSaid a) ∙ e)) in
@@ -102,7 +97,7 @@ packer-no-room text room after r p = (λ e. only (judgePack text (length room)) 
     only Fine j NoRoom f e = (j, text-no-room text (judged-patterns text (length room) j) .0 f)
     only Fine j (Packed table) f e = let a : r ≡ packings.Done (length table) = answered ∙ rw (j, f) in no-refusal (sym (ap packingSaid a) ∙ e)
 
-    when : judgePack text (length room) ≡ Fine → (cells < cellsNeeded (patternsOf text)) ⊎ (entries < entriesNeeded (patternsOf text)) → packingSaid r ≡ Refuses (plain 11)
+    when : judgePack text (length room) ≡ Fine → (cellLimit < cellsNeeded (patternsOf text)) ⊎ (entryLimit < entriesNeeded (patternsOf text)) → packingSaid r ≡ Refuses (plain 11)
     when j h =
         let a : r ≡ packings.Refused NoFit = answered ∙ rw (j, text-no-room text (judged-patterns text (length room) j) .1 h) in
         ap packingSaid a

@@ -1,9 +1,9 @@
 -- "Unreached cells and entries may hold anything in their bodies": tables that agree on all that they reach are judged alike with
 -- every list, and the calls answer alike over them, checked or not.
-use Prim.Native.Nat.{ℕ, _+_, _*_}
-use mathlib.Core.Bool.{Bool, true, false, not}
+use Prim.Native.Nat.{ℕ, _+_, _*_, _<_}
+use mathlib.Core.Bool.{true, not}
 use mathlib.Core.List.{List}
-use mathlib.Core.Logic.{_⊎_, inl, inr}
+use mathlib.Core.Logic.{_⊎_, inl, inr, _↔_}
 use mathlib.Core.Path.{_≡_, refl, sym, _∙_, ap}
 use native.Mathlib.Omega.{arith}
 use lib.ListN.{length, drop, length-take, length-drop}
@@ -12,26 +12,31 @@ use Rattle.base.specs.Grounds.{first, refuseIf}
 use Rattle.base.specs.declared.Check.{Check}
 use Rattle.base.specs.declared.Check.the-variants.{Fine, Refused}
 use Rattle.base.specs.declared.Ground.the-variants.{NotRight}
+use Rattle.base.proofs.Lists.{test-iff}
+use Rattle.rooms.specs.Rooms.{bit}
+use Rattle.rooms.proofs.Sheets.{sheet-same}
 use Rattle.words.specs.Words.{judgeWord, rowOf}
 use Rattle.lists.specs.Lists.{judgePatterns}
 use Rattle.lookup.specs.Find.{findEither}
 use Rattle.liang.specs.Patterns.{Pattern, patternsOf}
 use Rattle.hyphenation.specs.Breaks.{isBreak, breakSheet, breakLooks}
 use Rattle.liang.specs.Breaks.{levelBreak}
-use Rattle.table.specs.Table.{headSize, cellSize, numberAt, cellCount, entryCount, formed, judgeTable, cellsOf, entriesOf}
+use Rattle.patterns.specs.Strings.{nth, Shaped, Sorted}
+use Rattle.patterns.proofs.Good.{good-sorted, good-patterns}
+use Rattle.table.proofs.Parts.{cells-length, entries-length}
+use Rattle.table.specs.Table.{rootBase, headSize, cellSize, numberAt, cellCount, entryCount, formed, judgeTable, cellsFrom, entriesFrom, cellsOf, entriesOf}
 use Rattle.walk.specs.Walk.{settings}
-use Rattle.right.specs.Right.{Kinds, Right}
-use Rattle.right.specs.Test.{rightTest, judgeCheck}
-use Rattle.right.specs.Reached.{AgreeReached}
-use Rattle.accepted.proofs.Unreached.{settings-alike, counts-alike, right-of}
-use Rattle.acceptance.proofs.Theorems.{test-tells}
-use Rattle.hyphenation.specs.Sheet.{bit}
+use Rattle.rightness.specs.Right.{Kinds, PathsRight}
+use Rattle.rightness.specs.Test.{kindsTest, pathsTest, rightTest, rightFor, judgeCheck}
+use Rattle.trie.specs.Reached.{AgreeReached}
+use Rattle.matching.proofs.Unreached.{settings-alike, counts-alike, paths-right-of}
+use Rattle.decision.proofs.Loops.{kinds-tell}
+use Rattle.decision.proofs.Test.{paths-tell}
 use Rattle.hyphenation.specs.Levels.{levelAt, levelSheet, wordLooks}
-use Rattle.hyphenation.specs.Calls.{rootBase, judgeLevels, judgeHyphenate, answer, roomAfter, levelsAnswer, levelsRoom, breaksSheet, breaksLooks, breaksAnswer, breaksRoom}
-use Rattle.hyphenation.proofs.Rooms.{sheet-same}
+use Rattle.hyphenation.specs.Calls.{judgeLevels, judgeHyphenate, answer, roomAfter, levelsAnswer, levelsRoom, breaksSheet, breaksLooks, breaksAnswer, breaksRoom}
 use Rattle.hyphenation.proofs.Calls.{levels-sizes, breaks-sizes}
 use Rattle.hyphenation.proofs.Theorems.{break-same}
-use Rattle.demands.proofs.Accepted.{row-symbols}
+use Rattle.demands.proofs.Liang.{row-symbols}
 
 -- tables that agree in this way agree in this way the other way round
 turned : {root : ℕ} {table other : List ℕ} → AgreeReached root table other → AgreeReached root other table
@@ -64,7 +69,7 @@ module _ (root : ℕ) (table other : List ℕ) (a : AgreeReached root table othe
   table-alike = rw (a .size, a .head 0 (omega arith), a .head 1 (omega arith), same-cells, same-entries)
 
   cells-size : length (cellsOf table) ≡ length (cellsOf other)
-  unfolding cellsOf
+  unfolding cellsOf cellsFrom
   cells-size =
       omega (
         arith,
@@ -77,7 +82,7 @@ module _ (root : ℕ) (table other : List ℕ) (a : AgreeReached root table othe
       )
 
   entries-size : length (entriesOf table) ≡ length (entriesOf other)
-  unfolding entriesOf
+  unfolding entriesOf entriesFrom
   entries-size =
       omega (
         arith,
@@ -94,35 +99,44 @@ module _ (root : ℕ) (table other : List ℕ) (a : AgreeReached root table othe
         ofEntries = λ n l. sym (a .entryKinds n) ∙ k .ofEntries n (omega (arith, l, entries-size));
       }
 
-  right-alike : (patterns : List Pattern) → Right patterns (cellsOf table) (entriesOf table) root → Right patterns (cellsOf other) (entriesOf other) root
-  right-alike patterns r =
-      right-of (cellsOf table) (cellsOf other) (entriesOf table) (entriesOf other) cells-size entries-size root (a .cells) (a .entries) patterns (kinds-alike (r .kinds)) r
+  paths-alike : (patterns : List Pattern) → PathsRight patterns (cellsOf table) (entriesOf table) root → PathsRight patterns (cellsOf other) (entriesOf other) root
+  paths-alike = paths-right-of (cellsOf table) (cellsOf other) (entriesOf table) (entriesOf other) cells-size entries-size root (a .cells) (a .entries)
 
--- two tests that follow from each other
-test-iff : (x y : Bool) → (x ≡ true → y ≡ true) → (y ≡ true → x ≡ true) → x ≡ y
-test-iff true y f g = sym (f refl)
-test-iff false true f g = g refl
-test-iff false false f g = refl
+module _ (root : ℕ) (table other : List ℕ) (a : AgreeReached root table other) where
+  -- The checker's tests say the same of both: that of the kinds,
+  pub kinds-test-alike : judgeTable table ≡ Fine → judgeTable other ≡ Fine
+      → kindsTest (cellsOf table) (entriesOf table) (cellCount table) (entryCount table) ≡ kindsTest (cellsOf other) (entriesOf other) (cellCount other) (entryCount other)
+  kinds-test-alike f g =
+      test-iff _ _ (λ t. tell other g .1 (kinds-alike root table other a (tell table f .0 t))) (λ t. tell table f .1 (kinds-alike root other table (turned a) (tell other g .0 t)))
+    where
+      tell : (t : List ℕ) → judgeTable t ≡ Fine → (kindsTest (cellsOf t) (entriesOf t) (cellCount t) (entryCount t) ≡ true) ↔ Kinds (cellsOf t) (entriesOf t)
+      tell t fine = kinds-tell _ _ _ _ (cells-length t fine) (entries-length t fine)
 
--- The checker says the same of both, whatever the list.
+  -- and that of a list's paths, whatever the list.
+  pub paths-test-alike : (patterns : List Pattern) → Sorted patterns → ((i : ℕ) → i < length patterns → Shaped (nth patterns i))
+      → pathsTest patterns (cellsOf table) (entriesOf table) root ≡ pathsTest patterns (cellsOf other) (entriesOf other) root
+  paths-test-alike patterns sorted shaped =
+      test-iff _ _
+      (λ t. tell other .1 (paths-alike root table other a patterns (tell table .0 t)))
+      (λ t. tell table .1 (paths-alike root other table (turned a) patterns (tell other .0 t)))
+    where
+      tell : (t : List ℕ) → (pathsTest patterns (cellsOf t) (entriesOf t) root ≡ true) ↔ PathsRight patterns (cellsOf t) (entriesOf t) root
+      tell t = paths-tell patterns (cellsOf t) (entriesOf t) root sorted shaped
+
+-- So does the checker.
 pub checked-alike : (text table other : List ℕ) → AgreeReached 0 table other → judgeCheck text table ≡ judgeCheck text other
-unfolding judgeCheck
+unfolding judgeCheck rightTest
 checked-alike text table other a = rw (← (table-alike 0 table other a)) (go (judgePatterns text) refl (judgeTable table) refl)
   where
-    test : List ℕ → Bool
-    test t = rightTest (patternsOf text) (cellsOf t) (entriesOf t) 0 (cellCount t) (entryCount t)
-
-    same : judgePatterns text ≡ Fine → judgeTable table ≡ Fine → judgeTable other ≡ Fine → test table ≡ test other
-    same p q r =
-        test-iff (test table) (test other)
-        (λ t. test-tells text other p r .1 (right-alike 0 table other a (patternsOf text) (test-tells text table p q .0 t)))
-        (λ t. test-tells text table p q .1 (right-alike 0 other table (turned a) (patternsOf text) (test-tells text other p r .0 t)))
-
     go : (p : Check) → judgePatterns text ≡ p → (q : Check) → judgeTable table ≡ q
-        → first p (first q (refuseIf (not (test table)) NotRight)) ≡ first p (first q (refuseIf (not (test other)) NotRight))
+        → first p (first q (refuseIf (not (rightFor text table)) NotRight)) ≡ first p (first q (refuseIf (not (rightFor text other)) NotRight))
     go (Refused g) e q f = refl
     go Fine e (Refused g) f = refl
-    go Fine e Fine f = rw (same e f (sym (table-alike 0 table other a) ∙ f))
+    go Fine e Fine f =
+        rw (
+          kinds-test-alike 0 table other a f (sym (table-alike 0 table other a) ∙ f),
+          paths-test-alike 0 table other a (patternsOf text) (good-sorted text e) (good-patterns text e),
+        )
 
 -- an answer, and a room, by what a judgement that refuses nothing leads to
 answer-alike : (judged judged′ : Check) (sheet sheet′ : List ℕ) (count count′ : ℕ) → judged ≡ judged′ → (judged ≡ Fine → (sheet ≡ sheet′) × (count ≡ count′))
@@ -134,34 +148,44 @@ room-alike : (judged judged′ : Check) (sheet sheet′ room : List ℕ) → jud
 room-alike Fine judged′ sheet sheet′ room e f = rw (← e, f refl)
 room-alike (Refused g) judged′ sheet sheet′ room e f = rw (← e)
 
+-- "Over any table, checked or not": the levels of a word, its count and its breaks are the same over both, from any root.
+module _ (root : ℕ) (table other : List ℕ) (a : AgreeReached root table other) (word : List ℕ) (fine : judgeWord wordLimit word ≡ Fine) where
+  level-alike : (i : ℕ) → levelAt (cellsOf table) (entriesOf table) root word i ≡ levelAt (cellsOf other) (entriesOf other) root word i
+  unfolding levelAt
+  level-alike i = rw settings-over
+    where
+      settings-over : settings (cellsOf table) (entriesOf table) root 0 (rowOf word) ≡ settings (cellsOf other) (entriesOf other) root 0 (rowOf word)
+      settings-over =
+          settings-alike (cellsOf table) (cellsOf other) (entriesOf table) (entriesOf other) (cells-size root table other a) (entries-size root table other a) root
+          (a .cells) (a .entries) 0 (rowOf word) (row-symbols wordLimit word fine)
+
+  pub levels-alike : levelSheet (cellsOf table) (entriesOf table) root word ≡ levelSheet (cellsOf other) (entriesOf other) root word
+  unfolding levelSheet
+  levels-alike = sheet-same _ _ _ (λ i k. level-alike i)
+
+  pub looks-alike : wordLooks (cellsOf table) root word ≡ wordLooks (cellsOf other) root word
+  unfolding wordLooks
+  looks-alike =
+      counts-alike (cellsOf table) (cellsOf other) (entriesOf table) (entriesOf other) (cells-size root table other a) (entries-size root table other a) root
+      (a .cells) (a .entries) (rowOf word) (row-symbols wordLimit word fine)
+
+  pub breaks-alike : (left right : ℕ) (customer house : List ℕ)
+      → breakSheet left right customer house (cellsOf table) (entriesOf table) root word ≡ breakSheet left right customer house (cellsOf other) (entriesOf other) root word
+  unfolding breakSheet isBreak levelBreak
+  breaks-alike left right customer house =
+      sheet-same _ _ _ (λ i k. ap bit (break-same (findEither word customer house) (findEither word customer house) customer house _ _ i refl (rw (level-alike i))))
+
 -- The calls say and write the same over both, whatever the word.
 module _ (table other : List ℕ) (a : AgreeReached rootBase table other) where
   module _ (word : List ℕ) (fine : judgeWord wordLimit word ≡ Fine) where
-    level-alike : (i : ℕ) → levelAt (cellsOf table) (entriesOf table) rootBase word i ≡ levelAt (cellsOf other) (entriesOf other) rootBase word i
-    unfolding levelAt
-    level-alike i = rw settings-over
-      where
-        settings-over : settings (cellsOf table) (entriesOf table) rootBase 0 (rowOf word) ≡ settings (cellsOf other) (entriesOf other) rootBase 0 (rowOf word)
-        settings-over =
-            settings-alike (cellsOf table) (cellsOf other) (entriesOf table) (entriesOf other) (cells-size rootBase table other a) (entries-size rootBase table other a) rootBase
-            (a .cells) (a .entries) 0 (rowOf word) (row-symbols wordLimit word fine)
-
-    -- "Over any table, checked or not": the levels, and the count
     pub level-sheet-alike : levelSheet (cellsOf table) (entriesOf table) rootBase word ≡ levelSheet (cellsOf other) (entriesOf other) rootBase word
-    unfolding levelSheet
-    level-sheet-alike = sheet-same _ _ (λ i k. level-alike i)
+    level-sheet-alike = levels-alike rootBase table other a word fine
 
     pub word-looks-alike : wordLooks (cellsOf table) rootBase word ≡ wordLooks (cellsOf other) rootBase word
-    unfolding wordLooks
-    word-looks-alike =
-        counts-alike (cellsOf table) (cellsOf other) (entriesOf table) (entriesOf other) (cells-size rootBase table other a) (entries-size rootBase table other a) rootBase
-        (a .cells) (a .entries) (rowOf word) (row-symbols wordLimit word fine)
+    word-looks-alike = looks-alike rootBase table other a word fine
 
-    -- and the breaks
     pub break-sheet-alike : (left right : ℕ) (customer house : List ℕ) → breaksSheet left right word customer house table ≡ breaksSheet left right word customer house other
-    unfolding breakSheet isBreak levelBreak
-    break-sheet-alike left right customer house =
-        sheet-same _ _ (λ i k. ap bit (break-same (findEither word customer house) (findEither word customer house) customer house _ _ i refl (rw (level-alike i))))
+    break-sheet-alike = breaks-alike rootBase table other a word fine
 
     pub break-looks-alike : (customer house : List ℕ) → breaksLooks word customer house table ≡ breaksLooks word customer house other
     unfolding breakLooks

@@ -10,26 +10,24 @@ use Rattle.words.specs.Words.{judgeWord, rowOf}
 use Rattle.words.proofs.Laws.{row-length}
 use Rattle.lookup.specs.Listed.{Listed}
 use Rattle.liang.specs.Patterns.{patternsOf}
-use Rattle.table.specs.Table.{cellsOf, entriesOf}
+use Rattle.table.specs.Table.{rootBase, cellsOf, entriesOf}
 use Rattle.walk.specs.Walk.{looksFrom, matchesFrom, sumTo}
 use Rattle.walk.proofs.Count.{looks-sum}
-use Rattle.right.specs.Test.{judgeCheck}
-use Rattle.accepted.specs.Longest.{longest}
-use Rattle.accepted.proofs.Looks.{matches-longest}
+use Rattle.rightness.specs.Test.{judgeCheck}
+use Rattle.matching.specs.Longest.{longest}
 use Rattle.hyphenation.specs.Levels.{wordLooks}
-use Rattle.hyphenation.specs.Calls.{rootBase, Levels, Breaks}
+use Rattle.hyphenation.specs.Calls.{Levels, Breaks}
 use Rattle.hyphenation.specs.declared.Answer.the-variants as answers
 use Rattle.hyphenation.proofs.Theorems.{levels-count}
-use Rattle.demands.proofs.Accepted.{row-symbols, alphabet-drop, accepted-right}
+use Rattle.demands.proofs.Liang as over
+use Rattle.demands.proofs.Accepted.{accepted-paths}
 use Rattle.demands.proofs.Breaks.{count-unlisted}
 
 -- "Over a right table, let m be the length of the longest beginning of a pattern that stands at a place, 0 if none does: the walk
 -- from there matches m symbols".
 pub matches-at-place : (text table : List ℕ) → judgeCheck text table ≡ Fine → (word : List ℕ) → judgeWord wordLimit word ≡ Fine → (place : ℕ)
     → matchesFrom (cellsOf table) patternLimit rootBase (drop place (rowOf word)) ≡ longest (patternsOf text) (drop place (rowOf word))
-matches-at-place text table accepted word fine place =
-    matches-longest (patternsOf text) (cellsOf table) (entriesOf table) rootBase (accepted-right text table accepted) (drop place (rowOf word))
-    (alphabet-drop place (rowOf word) (row-symbols wordLimit word fine))
+matches-at-place text table accepted word fine = over.matches-at-place (patternsOf text) (cellsOf table) (entriesOf table) rootBase (accepted-paths text table accepted) word fine
 
 -- "A word's count sums the walks from all n + 2 places."
 word-sum : (cells : List ℕ) (root : ℕ) (word : List ℕ) → wordLooks cells root word ≡ sumTo (length word + 2) (λ place. looksFrom cells patternLimit root (drop place (rowOf word)))

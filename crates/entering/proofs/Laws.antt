@@ -1,15 +1,15 @@
 -- Laws about entries: one for each way through the code.
 use Prim.Native.Nat.{ℕ, zero, suc, _+_, _*_, _-_, _≤_, _<_}
-use mathlib.Core.Bool.{Bool, true, false, cond, _&&_}
+use mathlib.Core.Bool.{Bool, true, false, cond}
 use mathlib.Core.List.{List}
-use mathlib.Core.Path.{_≡_, refl, sym, _∙_, ap}
+use mathlib.Core.Path.{_≡_, refl, _∙_}
 use native.Mathlib.Numerals.{add-one}
 use native.Mathlib.Omega.{arith}
 use borrow.Author.Tests.{lt-ltb, le-ltb, eq-eqb, ne-eqb}
-use lib.Dec.{ltb, eqb}
-use lib.ListN.{length, getD, set, length-set}
-use Rattle.base.specs.Limits.{entries}
-use Rattle.table.specs.Table.{numberAt, putNumber}
+use lib.Dec.{eqb}
+use lib.ListN.{getD, set}
+use Rattle.base.specs.Limits.{entryLimit}
+use Rattle.table.specs.Table.{entryKind, entrySize, numberAt, putNumber}
 use Rattle.fit.specs.Entries.{Entries, TooMany, Made, holds, findEntry, putEntry, enterAt, enter, enterLevels}
 
 -- does an entry hold three numbers?
@@ -31,21 +31,21 @@ pub find-start : (bytes : List ℕ) (d l next count : ℕ) → findEntry bytes d
 find-start bytes d l next count = let e : suc count - 1 ≡ count = omega arith in rw e
 
 module _ (bytes : List ℕ) (d l next count k : ℕ) where
-  find-turn : k ≤ count → findEntry bytes d l next k (suc count - k) ≡ cond (holds bytes (5 * (k - 1)) d l next) k (findEntry bytes d l next (k + 1) (suc count - (k + 1)))
+  find-turn : k ≤ count → findEntry bytes d l next k (suc count - k) ≡ cond (holds bytes (entrySize * (k - 1)) d l next) k (findEntry bytes d l next (k + 1) (suc count - (k + 1)))
   unfolding findEntry
   find-turn h = let e : suc count - k ≡ suc (suc count - (k + 1)) = omega arith in rw (e, add-one)
 
-  pub find-here : k ≤ count → holds bytes (5 * (k - 1)) d l next ≡ true → findEntry bytes d l next k (suc count - k) ≡ k
+  pub find-here : k ≤ count → holds bytes (entrySize * (k - 1)) d l next ≡ true → findEntry bytes d l next k (suc count - k) ≡ k
   find-here h e = find-turn h ∙ rw e
 
-  pub find-on : k ≤ count → holds bytes (5 * (k - 1)) d l next ≡ false → findEntry bytes d l next k (suc count - k) ≡ findEntry bytes d l next (k + 1) (suc count - (k + 1))
+  pub find-on : k ≤ count → holds bytes (entrySize * (k - 1)) d l next ≡ false → findEntry bytes d l next k (suc count - k) ≡ findEntry bytes d l next (k + 1) (suc count - (k + 1))
   find-on h e = find-turn h ∙ rw e
 
   pub find-none : count < k → findEntry bytes d l next k (suc count - k) ≡ 0
   unfolding findEntry
   find-none h = let e : suc count - k ≡ 0 = omega arith in rw e
 
-pub entry-put : (bytes : List ℕ) (at d l next : ℕ) {after : List ℕ} → after ≡ putNumber (at + 3) next (set (set (set bytes at 3) (at + 1) d) (at + 2) l) → after ≡ putEntry bytes at d l next
+pub entry-put : (bytes : List ℕ) (at d l next : ℕ) {after : List ℕ} → after ≡ putNumber (at + 3) next (set (set (set bytes at entryKind) (at + 1) d) (at + 2) l) → after ≡ putEntry bytes at d l next
 unfolding putEntry
 entry-put bytes at d l next e = e
 
@@ -55,13 +55,13 @@ module _ (bytes : List ℕ) (count d l next : ℕ) {found : ℕ} (p : found ≡ 
   unfolding enter enterAt
   enter-again h = rw (← p, ne-eqb found 0 h)
 
-  pub enter-new : found ≡ 0 → count < entries → {after : List ℕ} → after ≡ putEntry bytes (5 * count) d l next → enter d l (Made bytes count next) ≡ Made after (count + 1) (count + 1)
+  pub enter-new : found ≡ 0 → count < entryLimit → {after : List ℕ} → after ≡ putEntry bytes (entrySize * count) d l next → enter d l (Made bytes count next) ≡ Made after (count + 1) (count + 1)
   unfolding enter enterAt
-  enter-new h k e = rw (← p, eq-eqb found 0 h, lt-ltb count entries k, ← e, add-one)
+  enter-new h k e = rw (← p, eq-eqb found 0 h, lt-ltb count entryLimit k, ← e, add-one)
 
-  pub enter-over : found ≡ 0 → entries ≤ count → enter d l (Made bytes count next) ≡ TooMany
+  pub enter-over : found ≡ 0 → entryLimit ≤ count → enter d l (Made bytes count next) ≡ TooMany
   unfolding enter enterAt
-  enter-over h k = rw (← p, eq-eqb found 0 h, le-ltb count entries k)
+  enter-over h k = rw (← p, eq-eqb found 0 h, le-ltb count entryLimit k)
 
 -- a pattern's levels, distance by distance
 pub levels-start : (levels : List ℕ) (m : ℕ) (made : Entries) → enterLevels levels m 0 (suc m) made ≡ enterLevels levels m 0 (suc m - 0) made

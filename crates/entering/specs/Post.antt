@@ -1,7 +1,6 @@
 -- What entering leaves, as definitions for the contracts.
 use Prim.Native.Nat.{ℕ}
 use mathlib.Core.List.{List}
-use mathlib.Core.Path.{_≡_}
 use Rattle.fit.specs.Entries as fit
 use Rattle.entering.specs.declared.Entered.{Entered}
 use Rattle.entering.specs.declared.Entered.the-variants.{Made, TooMany}

@@ -7,37 +7,38 @@ use lib.Dec.{eqb}
 use lib.ListN.{length, take, drop}
 use Rattle.base.specs.Limits.{roomSize}
 use Rattle.base.specs.Grounds.{Said, Finds, Refuses, firstOf}
+use Rattle.rooms.specs.Rooms.{sheetFrom, sheet, nonzero, bit}
 use Rattle.words.specs.Symbols.{small, capital, letter, lower, digit, symbolOf, symbolsOf}
 use Rattle.words.specs.Words.{leading, wordGrounds, wordSymbols, rowOf, inner}
 use Rattle.lines.specs.Lines.{glue, cut, isNil, startsWith, anyOf, patternForm, goodPattern, exceptionForm, goodException}
 use Rattle.lines.specs.Order.{before}
 use Rattle.lists.specs.Lists.{goodLine, firstBad, judgeLines, patternGrounds, listGrounds}
-use Rattle.base.specs.Tests.{same, allFrom}
+use Rattle.base.specs.Tests.{sameList, allFrom, smallest}
 use Rattle.lookup.specs.Find.{findLine, find, findEither}
 use Rattle.liang.specs.Patterns.{levelsFrom, patternOf, patternsOf}
 use Rattle.liang.specs.Levels.{begins, levelHere, levelOf, highest, liang}
 use Rattle.hyphenation.specs.Breaks.{isBreak, breakSheet, breakLooks}
 use Rattle.liang.specs.Breaks.{hyphenAt, inMargins, odd, levelBreak, badMargin}
-use Rattle.table.specs.Table.{numberAt, cellCount, entryCount, formed, tableGrounds, cellsOf, entriesOf, look, entryAt}
+use Rattle.table.specs.Table.{rootBase, numberAt, cellCount, entryCount, formed, tableGrounds, cellsFrom, entriesFrom, cellsOf, entriesOf, look, entryAt}
 use Rattle.walk.specs.Chain.{setting, chainStep, chainFrom, chain}
 use Rattle.walk.specs.Walk.{setStep, setFrom, lookStep, looksFrom, settings, looks}
 use Rattle.walk.specs.Raise.{highestSet}
-use Rattle.hyphenation.specs.Sheet.{sheetFrom, sheet, nonzero, bit}
 use Rattle.hyphenation.specs.Levels.{levelAt, levelSheet, wordLooks}
-use Rattle.hyphenation.specs.Calls.{rootBase, roomGrounds, marginGrounds, levelsGrounds, hyphenateGrounds, foundOr, breaksSheet, breaksLooks}
+use Rattle.hyphenation.specs.Calls.{roomGrounds, marginGrounds, levelsGrounds, hyphenateGrounds, foundOr, breaksSheet, breaksLooks}
 use Rattle.table.specs.declared.Look.{Look}
 use Rattle.table.specs.declared.Look.the-variants.{Hit, Miss}
 use Rattle.patterns.specs.Common.{common}
-use Rattle.patterns.specs.Next.{nextIn}
-use Rattle.right.specs.Paths.{onward, along}
-use Rattle.right.specs.Right.{soundStep, soundFrom, sound}
-use Rattle.right.specs.Test.{kindsFrom, exactTest, childAt, noneBetween, passedOver, followStep, follow, besides, patternsRight, rightTest, checkGrounds}
-use Rattle.fit.specs.Cells.{putNumber, isFree, serves, smallest, baseFor, inside, putCell, putCells, cellOf, putLink, placeAt, place, opens, placeLength, placeLengths, layoutOf, usedFrom}
+use Rattle.patterns.specs.Next.{nextIn, opens}
+use Rattle.trie.specs.Paths.{onward, along}
+use Rattle.trie.specs.Sound.{soundStep, soundFrom, sound}
+use Rattle.rightness.specs.Test.{kindsFrom, kindsTest, exactTest, childAt, noneBetween, passedOver, followStep, follow, besides, patternsRight, rightTest, checkGrounds}
+use Rattle.fit.specs.Cells.{putNumber, isFree, serves, baseFor, inside, putCell, putCells, cellOf, putLink, placeAt, place, placeLength, placeLengths, layoutOf, usedFrom}
 use Rattle.fit.specs.Entries.{holds, findEntry, putEntry, enterAt, enter, enterLevels, enterPattern, putOutput, outputOf, outputsOf}
 use Rattle.fit.specs.Table.{putKinds, Fit, NoRoom, Packed, bytesOf, finish, fitLayout, firstFit}
-use Rattle.layout.specs.Bases.{goesOn, hasBase, usedBy, usesCell, fitsAt, reach, leastBase, nextBase, pathsAt, pathsFrom, longest, pathsOf, placeAll, basesOf, topFrom, topOf, cellsNeeded}
+use Rattle.layout.specs.Bases.{goesOn, hasBase, usedBy, usesCell, fitsAt, reach, leastBase, nextBase, pathsAt, pathsFrom, longestLength, pathsOf, placeAll, basesOf, topFrom, topOf, cellsNeeded}
 use Rattle.layout.specs.Entries.{equal, firstEqual, addAt, addLevel, addLevels, addPattern, addPatterns, entryList, entriesNeeded, outputFrom, outputFor}
-use Rattle.layout.specs.Table.{twoBytes, headBytes, cellBytes, entryBytes, linkOf, pathCell, cellAmong, cellsFrom, allEntries, layoutTable}
+use Rattle.table.specs.Records.{twoBytes, headBytes, cellBytes, entryBytes}
+use Rattle.layout.specs.Table.{linkTo, pathCell, cellAmong, numberedCells, allEntries, layoutTable}
 use Rattle.figures.specs.Samples.{bytes, line, nine, letters, emptyTable}
 
 -- An answer in numbers: 0 and its values for a finding, number, list and place for a refusal.
@@ -105,44 +106,44 @@ table =
     let ninePaths : List (List ℕ) = bytes "h" ∷ bytes "i" ∷ bytes "n" ∷ bytes "o" ∷ bytes "t" ∷ bytes "he" ∷ bytes "hy" ∷ bytes "na" ∷ bytes "ti" ∷ bytes "hen" ∷ bytes "hyp" ∷ bytes "hena" ∷ [] in
     let nineBases : List ℕ = 1 ∷ 2 ∷ 3 ∷ 4 ∷ 7 ∷ 5 ∷ 6 ∷ 8 ∷ 9 ∷ 10 ∷ 13 ∷ 11 ∷ [] in
     -- the nine patterns: "Good, ascending."
-    same (inNumbers (firstOf (Finds []) (patternGrounds nine))) (0 ∷ [])
+    sameList (inNumbers (firstOf (Finds []) (patternGrounds nine))) (0 ∷ [])
     -- ""hyphenation": levels 0 3 0 0 2 5 4 2 0 2; margins 2, 3 give hy-phen-ation."
-    ∷ same (levels nine (bytes "hyphenation")) (0 ∷ 3 ∷ 0 ∷ 0 ∷ 2 ∷ 5 ∷ 4 ∷ 2 ∷ 0 ∷ 2 ∷ [])
-    ∷ same (breaks nine [] [] (bytes "hyphenation")) (0 ∷ 1 ∷ 0 ∷ 0 ∷ 0 ∷ 1 ∷ 0 ∷ 0 ∷ 0 ∷ 0 ∷ [])
+    ∷ sameList (levels nine (bytes "hyphenation")) (0 ∷ 3 ∷ 0 ∷ 0 ∷ 2 ∷ 5 ∷ 4 ∷ 2 ∷ 0 ∷ 2 ∷ [])
+    ∷ sameList (breaks nine [] [] (bytes "hyphenation")) (0 ∷ 1 ∷ 0 ∷ 0 ∷ 0 ∷ 1 ∷ 0 ∷ 0 ∷ 0 ∷ 0 ∷ [])
     -- ""on" has level 2, no break"
-    ∷ same (levels nine (bytes "on")) (2 ∷ [])
-    ∷ same (breaks nine [] [] (bytes "on")) (0 ∷ [])
+    ∷ sameList (levels nine (bytes "on")) (2 ∷ [])
+    ∷ sameList (breaks nine [] [] (bytes "on")) (0 ∷ [])
     -- "Its first-fit table: C 32, E 7, 233 bytes. Bases: h 1, i 2, n 3, o 4, t 7, he 5, hy 6, na 8, ti 9, hen 10, hyp 13, hena 11."
-    ∷ same (sizes nineTable) (233 ∷ 32 ∷ 7 ∷ [])
-    ∷ same (map (baseOf nineTable) ninePaths) nineBases
+    ∷ sameList (sizes nineTable) (233 ∷ 32 ∷ 7 ∷ [])
+    ∷ sameList (map (baseOf nineTable) ninePaths) nineBases
     -- The same from the layout as document 01 says it.
-    ∷ same (layoutSizes nine) (233 ∷ 32 ∷ 7 ∷ [])
-    ∷ same (map (λ path. linkOf nineLayout (wordSymbols path)) ninePaths) nineBases
+    ∷ sameList (layoutSizes nine) (233 ∷ 32 ∷ 7 ∷ [])
+    ∷ sameList (map (λ path. linkTo nineLayout (wordSymbols path)) ninePaths) nineBases
     -- "Its count is 27 (limit 208); "on" has level 2, no break, count 6." Over the table the calls find the same.
-    ∷ same (hyphenateCall nineTable [] [] (bytes "hyphenation")) (0 ∷ 2 ∷ 27 ∷ 0 ∷ 1 ∷ 0 ∷ 0 ∷ 0 ∷ 1 ∷ 0 ∷ 0 ∷ 0 ∷ 0 ∷ [])
+    ∷ sameList (hyphenateCall nineTable [] [] (bytes "hyphenation")) (0 ∷ 2 ∷ 27 ∷ 0 ∷ 1 ∷ 0 ∷ 0 ∷ 0 ∷ 1 ∷ 0 ∷ 0 ∷ 0 ∷ 0 ∷ [])
     ∷ eqb (16 * (length (bytes "hyphenation") + 2)) 208
-    ∷ same (levelsCall nineTable (bytes "hyphenation")) (0 ∷ 6 ∷ 27 ∷ [])
-    ∷ same (levelsCall nineTable (bytes "on")) (0 ∷ 1 ∷ 6 ∷ [])
-    ∷ same (hyphenateCall nineTable [] [] (bytes "on")) (0 ∷ 0 ∷ 6 ∷ 0 ∷ [])
-    ∷ same (inNumbers (firstOf (Finds []) (checkGrounds nine nineTable))) (0 ∷ [])
+    ∷ sameList (levelsCall nineTable (bytes "hyphenation")) (0 ∷ 6 ∷ 27 ∷ [])
+    ∷ sameList (levelsCall nineTable (bytes "on")) (0 ∷ 1 ∷ 6 ∷ [])
+    ∷ sameList (hyphenateCall nineTable [] [] (bytes "on")) (0 ∷ 0 ∷ 6 ∷ 0 ∷ [])
+    ∷ sameList (inNumbers (firstOf (Finds []) (checkGrounds nine nineTable))) (0 ∷ [])
     -- "Empty list: C 1, E 0, 12 bytes."
-    ∷ same (packed []) emptyTable
-    ∷ same (layoutTable []) emptyTable
-    ∷ same (layoutSizes []) (12 ∷ 1 ∷ 0 ∷ [])
+    ∷ sameList (packed []) emptyTable
+    ∷ sameList (layoutTable []) emptyTable
+    ∷ sameList (layoutSizes []) (12 ∷ 1 ∷ 0 ∷ [])
     -- ""na": the 1 falls outside; level 0."
-    ∷ same (levels nine (bytes "na")) (0 ∷ [])
+    ∷ sameList (levels nine (bytes "na")) (0 ∷ [])
     -- ""met-al" as house line, margins 2, 3: break after 3."
-    ∷ same (breaks nine [] (line "met-al") (bytes "metal")) (0 ∷ 0 ∷ 1 ∷ 0 ∷ [])
-    ∷ same (hyphenateCall emptyTable [] (line "met-al") (bytes "metal")) (0 ∷ 1 ∷ 0 ∷ 0 ∷ 0 ∷ 1 ∷ 0 ∷ [])
+    ∷ sameList (breaks nine [] (line "met-al") (bytes "metal")) (0 ∷ 0 ∷ 1 ∷ 0 ∷ [])
+    ∷ sameList (hyphenateCall emptyTable [] (line "met-al") (bytes "metal")) (0 ∷ 1 ∷ 0 ∷ 0 ∷ 0 ∷ 1 ∷ 0 ∷ [])
     -- "Customer "idler", house "id-ler": no break."
-    ∷ same (breaks nine (line "idler") (line "id-ler") (bytes "idler")) (0 ∷ 0 ∷ 0 ∷ 0 ∷ [])
-    ∷ same (hyphenateCall emptyTable (line "idler") (line "id-ler") (bytes "idler")) (0 ∷ 0 ∷ 0 ∷ 0 ∷ 0 ∷ 0 ∷ 0 ∷ [])
+    ∷ sameList (breaks nine (line "idler") (line "id-ler") (bytes "idler")) (0 ∷ 0 ∷ 0 ∷ 0 ∷ [])
+    ∷ sameList (hyphenateCall emptyTable (line "idler") (line "id-ler") (bytes "idler")) (0 ∷ 0 ∷ 0 ∷ 0 ∷ 0 ∷ 0 ∷ 0 ∷ [])
     -- "63 letters answered, 64 refused (4); 64 bytes with a digit also 4." Over the empty table each of 65 places takes one look.
-    ∷ same (levelsCall emptyTable (letters 63)) (0 ∷ 0 ∷ 65 ∷ [])
-    ∷ same (levelsCall emptyTable (letters 64)) (4 ∷ 0 ∷ 0 ∷ [])
-    ∷ same (levelsCall emptyTable (letters 63 ++ (49 ∷ []))) (4 ∷ 0 ∷ 0 ∷ [])
+    ∷ sameList (levelsCall emptyTable (letters 63)) (0 ∷ 0 ∷ 65 ∷ [])
+    ∷ sameList (levelsCall emptyTable (letters 64)) (4 ∷ 0 ∷ 0 ∷ [])
+    ∷ sameList (levelsCall emptyTable (letters 63 ++ (49 ∷ []))) (4 ∷ 0 ∷ 0 ∷ [])
     ∷ []
 
 pub figures : allOf table ≡ true
-unfolding table nine count levels breaks small capital letter lower digit symbolOf symbolsOf firstOf leading wordGrounds wordSymbols rowOf inner glue cut isNil startsWith anyOf patternForm goodPattern exceptionForm goodException before goodLine firstBad judgeLines patternGrounds listGrounds same findLine find findEither levelsFrom patternOf patternsOf begins levelHere levelOf highest liang hyphenAt inMargins odd levelBreak isBreak badMargin levelsCall hyphenateCall emptyTable numberAt cellCount entryCount formed tableGrounds cellsOf entriesOf look entryAt setting chainStep chainFrom chain setStep setFrom lookStep looksFrom settings looks highestSet sheetFrom sheet nonzero levelAt levelSheet wordLooks breakSheet breakLooks roomGrounds marginGrounds levelsGrounds hyphenateGrounds packed baseOf sizes common onward along soundStep soundFrom sound nextIn allFrom kindsFrom exactTest childAt noneBetween passedOver followStep follow besides patternsRight rightTest checkGrounds putNumber isFree serves smallest baseFor inside putCell putCells cellOf putLink placeAt place opens placeLength placeLengths layoutOf usedFrom holds findEntry putEntry enterAt enter enterLevels enterPattern putOutput outputOf outputsOf putKinds bytesOf finish fitLayout firstFit layoutSizes goesOn hasBase usedBy usesCell fitsAt reach leastBase nextBase pathsAt pathsFrom longest pathsOf placeAll basesOf topFrom topOf cellsNeeded equal firstEqual addAt addLevel addLevels addPattern addPatterns entryList entriesNeeded outputFrom outputFor twoBytes headBytes cellBytes entryBytes linkOf pathCell cellAmong cellsFrom allEntries layoutTable
+unfolding table nine count levels breaks small capital letter lower digit symbolOf symbolsOf firstOf leading wordGrounds wordSymbols rowOf inner glue cut isNil startsWith anyOf patternForm goodPattern exceptionForm goodException before goodLine firstBad judgeLines patternGrounds listGrounds sameList findLine find findEither levelsFrom patternOf patternsOf begins levelHere levelOf highest liang hyphenAt inMargins odd levelBreak isBreak badMargin levelsCall hyphenateCall emptyTable numberAt cellCount entryCount formed tableGrounds cellsFrom entriesFrom cellsOf entriesOf look entryAt setting chainStep chainFrom chain setStep setFrom lookStep looksFrom settings looks highestSet sheetFrom sheet nonzero levelAt levelSheet wordLooks breakSheet breakLooks roomGrounds marginGrounds levelsGrounds hyphenateGrounds packed baseOf sizes common onward along soundStep soundFrom sound nextIn allFrom kindsFrom kindsTest exactTest childAt noneBetween passedOver followStep follow besides patternsRight rightTest checkGrounds putNumber isFree serves smallest baseFor inside putCell putCells cellOf putLink placeAt place opens placeLength placeLengths layoutOf usedFrom holds findEntry putEntry enterAt enter enterLevels enterPattern putOutput outputOf outputsOf putKinds bytesOf finish fitLayout firstFit layoutSizes goesOn hasBase usedBy usesCell fitsAt reach leastBase nextBase pathsAt pathsFrom longestLength pathsOf placeAll basesOf topFrom topOf cellsNeeded equal firstEqual addAt addLevel addLevels addPattern addPatterns entryList entriesNeeded outputFrom outputFor twoBytes headBytes cellBytes entryBytes linkTo pathCell cellAmong numberedCells allEntries layoutTable
 figures = refl

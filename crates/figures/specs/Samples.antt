@@ -4,14 +4,14 @@ use Prim.Native.Char.{code}
 use Prim.Native.String.{String, [] as «empty», _∷_ as _then_}
 use mathlib.Core.List.{List, [], _∷_, _++_}
 use lib.ListN.{replicate}
-use Rattle.words.specs.Symbols.{feed}
+use Rattle.words.specs.Symbols.{lineFeed}
 
 abbrev pub bytes : String → List ℕ
 bytes «empty» = []
 bytes (c then s) = code c ∷ bytes s
 
 abbrev pub line : String → List ℕ
-line s = bytes s ++ (feed ∷ [])
+line s = bytes s ++ (lineFeed ∷ [])
 
 -- "List: he2n, hena4, hen5at, hy3ph, 2io, 1na, n2at, o2n, 1tio." The patterns of Knuth's hyphenation example.
 unfoldable pub nine : List ℕ

@@ -5,9 +5,9 @@ use mathlib.Core.Bool.{Bool, cond, _&&_}
 use mathlib.Core.List.{List, [], _∷_}
 use lib.Dec.{ltb, eqb}
 use lib.ListN.{length, getD, set, replicate}
-use Rattle.base.specs.Limits.{entries}
+use Rattle.base.specs.Limits.{entryLimit}
 use Rattle.liang.specs.Patterns.{Pattern}
-use Rattle.table.specs.Table.{entryKind, entrySize, cellSize, numberAt}
+use Rattle.table.specs.Table.{entryKind, entrySize, entryRoom, cellSize, numberAt}
 use Rattle.fit.specs.Cells.{putNumber, cellOf}
 
 -- "an equal earlier entry (all three numbers)": does the entry at a place hold them?
@@ -33,7 +33,7 @@ pub data Entries : Type 0 where
 unfoldable pub enterAt : List ℕ → ℕ → ℕ → ℕ → ℕ → ℕ → Entries
 enterAt bytes count distance level next found =
     cond (eqb found 0)
-    (cond (ltb count entries) (Made (putEntry bytes (entrySize * count) distance level next) (suc count) (suc count)) TooMany)
+    (cond (ltb count entryLimit) (Made (putEntry bytes (entrySize * count) distance level next) (suc count) (suc count)) TooMany)
     (Made bytes count found)
 
 unfoldable pub enter : ℕ → ℕ → Entries → Entries
@@ -61,15 +61,19 @@ pub data Outputs : Type 0 where
   Out : List ℕ → List ℕ → ℕ → Outputs
 
 -- "The output is the last entry made or found."
-unfoldable pub putOutput : Pattern → List ℕ → Entries → Outputs
-putOutput p cells TooMany = Over
-putOutput p cells (Made bytes count last) = Out (putNumber (cellSize * cellOf cells 0 (p .symbols) + 4) last cells) bytes count
+unfoldable pub putOutput : ℕ → Pattern → List ℕ → Entries → Outputs
+putOutput root p cells TooMany = Over
+putOutput root p cells (Made bytes count last) = Out (putNumber (cellSize * cellOf cells root (p .symbols) + 4) last cells) bytes count
 
-unfoldable pub outputOf : Pattern → Outputs → Outputs
-outputOf p Over = Over
-outputOf p (Out cells bytes count) = putOutput p cells (enterPattern p (Made bytes count 0))
+unfoldable pub outputOf : ℕ → Pattern → Outputs → Outputs
+outputOf root p Over = Over
+outputOf root p (Out cells bytes count) = putOutput root p cells (enterPattern p (Made bytes count 0))
 
--- "Entries: patterns in list order".
-unfoldable pub outputsOf : List Pattern → Outputs → Outputs
-outputsOf [] made = made
-outputsOf (p ∷ rest) made = outputsOf rest (outputOf p made)
+-- "Entries: patterns in list order". The cells are walked from the list's root, and earlier entries may be there.
+unfoldable pub outputsOf : ℕ → List Pattern → Outputs → Outputs
+outputsOf root [] made = made
+outputsOf root (p ∷ rest) made = outputsOf root rest (outputOf root p made)
+
+-- No entry made: the bytes where entries will stand.
+abbrev pub emptyEntries : List ℕ
+emptyEntries = replicate entryRoom 0

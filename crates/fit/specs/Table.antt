@@ -1,12 +1,13 @@
 -- First fit: the whole table's bytes.
-use Prim.Native.Nat.{ℕ, zero, suc, _+_, _*_, _/_, _%_}
-use mathlib.Core.List.{List, [], _∷_, _++_}
-use lib.ListN.{set, take, replicate}
-use Rattle.base.specs.Limits.{cells, entries}
+use Prim.Native.Nat.{ℕ, zero, suc, _+_, _*_}
+use mathlib.Core.List.{List, _++_}
+use lib.ListN.{set, take}
+use Rattle.base.specs.Limits.{cellLimit}
 use Rattle.liang.specs.Patterns.{Pattern}
-use Rattle.table.specs.Table.{headKind, edition, cellKind, cellSize, entrySize}
+use Rattle.table.specs.Table.{cellKind, cellSize, entrySize, rootBase}
+use Rattle.table.specs.Records.{headBytes}
 use Rattle.fit.specs.Cells.{Layout, Full, Fits, layoutOf, usedFrom}
-use Rattle.fit.specs.Entries.{Outputs, Over, Out, outputsOf}
+use Rattle.fit.specs.Entries.{Outputs, Over, Out, outputsOf, emptyEntries}
 
 -- "A free cell is kind 2 and five zero bytes": the kinds of cells 0 to n - 1.
 unfoldable pub putKinds : ℕ → List ℕ → List ℕ
@@ -21,7 +22,7 @@ pub data Fit : Type 0 where
 -- "One kind 1, then C of kind 2 (cells 0 to C - 1), then E of kind 3"
 unfoldable pub bytesOf : ℕ → List ℕ → List ℕ → ℕ → List ℕ
 bytesOf c bytes made e =
-    (headKind ∷ edition ∷ (c / 256) ∷ (c % 256) ∷ (e / 256) ∷ (e % 256) ∷ []) ++ (take (cellSize * c) (putKinds c bytes) ++ take (entrySize * e) made)
+    headBytes c e ++ (take (cellSize * c) (putKinds c bytes) ++ take (entrySize * e) made)
 
 unfoldable pub finish : ℕ → Outputs → Fit
 finish c Over = NoRoom
@@ -29,7 +30,7 @@ finish c (Out bytes made e) = Packed (bytesOf c bytes made e)
 
 unfoldable pub fitLayout : List Pattern → Layout → Fit
 fitLayout patterns Full = NoRoom
-fitLayout patterns (Fits bytes taken) = finish (usedFrom bytes 0 cells 1) (outputsOf patterns (Out bytes (replicate (entrySize * entries) 0) 0))
+fitLayout patterns (Fits bytes taken) = finish (usedFrom bytes 0 cellLimit 1) (outputsOf rootBase patterns (Out bytes emptyEntries 0))
 
 -- The first-fit table of a list.
 unfoldable pub firstFit : List Pattern → Fit

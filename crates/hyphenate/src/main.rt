@@ -35,7 +35,7 @@ fn make_space(out: &[u8], at: usize) -> Space
     requires { ⌜ (at ≤ length (now out)) × (lineLimit ≤ length (now out)) ⌝ }
     ensures { λ r. ⌜ r .at + lineLimit ≤ length (now (out .entry)) ⌝ }
 {
-    if out.len() - at < report::LINE {
+    if out.len() - at < report::LINE_LIMIT {
         let written = io::write_all(1, &out[0..at]);
         return Space {
             at: 0,
@@ -107,7 +107,7 @@ fn take_byte<'a>(
     requires { ⌜ Holds s (now held) (now marks) (now out) ⌝ }
     ensures { λ r. ⌜ Holds r (now (held .exit)) (now (marks .exit)) (now (out .exit)) ⌝ }
 {
-    if b == 10 {
+    if b == words::LINE_FEED {
         return end_line(customer, house, table, held, marks, out, s);
     }
     let mut next = s;
@@ -198,7 +198,7 @@ fn take_words<'a>(
 
 // The last line.
 fn print_sums(words: u64, refused: u64, probes: u64) {
-    let mut line = [0u8; report::LINE];
+    let mut line = [0u8; report::LINE_LIMIT];
     let end = report::put_sums(words, refused, probes, &mut line, 0);
     io::write_all(1, &line[0..end]);
 }
@@ -206,7 +206,7 @@ fn print_sums(words: u64, refused: u64, probes: u64) {
 // The words over judged lists and a packed table. Without the last line the words were not all read or written.
 fn print_words<'a>(customer: &'a [u8], house: &'a [u8], table: &[u8]) {
     let mut held = [0u8; base::WORD_LIMIT + 1];
-    let mut marks = [0u8; base::ROOM];
+    let mut marks = [0u8; base::ROOM_SIZE];
     let mut out = io::large_buffer();
     let start = State {
         held: 0,

@@ -4,25 +4,24 @@ use Prim.Native.Nat.{ℕ}
 use mathlib.Core.Bool.{_||_}
 use mathlib.Core.List.{List, [], _∷_}
 use mathlib.Core.Path.{_≡_, sym, _∙_, ap}
-use lib.Dec.{ltb}
 use Rattle.base.specs.Limits.{wordLimit, roomSize}
 use Rattle.base.specs.Grounds.{Said, Row}
 use Rattle.base.specs.declared.Check.{Check}
 use Rattle.base.specs.declared.Check.the-variants.{Fine, Refused}
 use Rattle.base.specs.declared.Ground.the-variants.{Margin, RoomShort}
 use Rattle.base.proofs.Grounds.{Ordered, ordered-first, ordered-if, said-found, said-refused, told-once, refuses-once, no-refusal}
+use Rattle.rooms.specs.Rooms.{isShort, nonzero}
 use Rattle.words.proofs.Order.{word-ordered}
 use Rattle.lists.proofs.Order.{lists-ordered}
 use Rattle.liang.specs.Breaks.{badMargin}
 use Rattle.table.proofs.Order.{table-ordered}
-use Rattle.hyphenation.specs.Sheet.{nonzero}
 use Rattle.hyphenation.specs.Calls.{roomGrounds, marginGrounds, levelsGrounds, hyphenateGrounds, wordAloneGrounds, answerSaid, foundOr, roomLeft, Answers, judgeRoom, judgeMargins, judgeLevels, judgeHyphenate, judgeWordAlone, answer, roomAfter, Answered}
 use Rattle.hyphenation.specs.declared.Answer.{Answer}
 use Rattle.hyphenation.specs.declared.Answer.the-variants as answers
 
 pub room-ordered : (size : ℕ) → Ordered (judgeRoom size) (roomGrounds size)
 unfolding judgeRoom roomGrounds
-room-ordered size = ordered-if (ltb size roomSize) RoomShort
+room-ordered size = ordered-if (isShort roomSize size) RoomShort
 
 pub margins-ordered : (left right : ℕ) → Ordered (judgeMargins left right) (marginGrounds left right)
 unfolding judgeMargins marginGrounds

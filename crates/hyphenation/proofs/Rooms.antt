@@ -1,21 +1,24 @@
 -- What stands in a room at each byte: after settings are raised, after a line is marked, and in a sheet.
 use Prim.Native.Nat.{ℕ, zero, suc, _+_, _-_, _≤_, _<_}
 use mathlib.Core.Bool.{Bool, true, false, cond, _&&_}
-use mathlib.Core.List.{List, [], _∷_, _++_}
+use mathlib.Core.List.{List, [], _∷_}
 use mathlib.Core.Path.{_≡_, refl, sym, _∙_, ap}
-use native.Mathlib.Decide.{decLt, ℕ-discrete}
+use native.Mathlib.Decide.{decLt}
 use native.Mathlib.Omega.{arith}
 use borrow.Author.Tests.{lt-ltb, le-ltb, ltb-true, ltb-false}
 use lib.Dec.{leb, ltb, eqb}
-use lib.ListN.{length, getD, take, drop, set, replicate, length-append, length-drop, length-set, List·getD-append}
-use lib.Seq.{getD-set-same, getD-set-other, getD-append-add, getD-drop, ext-getD, drop-append-seam, take-append-seam}
+use lib.ListN.{length, getD, take, drop, set, replicate, length-set}
+use lib.Seq.{paste, getD-set-same, getD-set-other}
 use Rattle.base.specs.Limits.{roomSize, wordLimit}
+use Rattle.rooms.specs.Rooms.{sheetFrom, sheet, written, bit}
+use Rattle.rooms.proofs.Sheets.{sheet-same, written-length, written-low, written-high, written-again, written-is, set-written}
+use Rattle.rooms.proofs.Laws.{copied-sheet}
 use Rattle.words.specs.Symbols.{hyphen}
 use Rattle.words.specs.Words.{rowOf, inner}
 use Rattle.lookup.specs.Find.{findEither}
 use Rattle.lookup.specs.declared.Located.{Located}
 use Rattle.lookup.specs.declared.Located.the-variants.{Customer, House, Nowhere}
-use Rattle.hyphenation.specs.Breaks.{breakBy, isBreak, mark, breakSheet, unlessListed, breakLooks}
+use Rattle.hyphenation.specs.Breaks.{breakBy, isBreak, markHyphens, breakSheet, unlessListed, breakLooks}
 use Rattle.liang.specs.Breaks.{hyphenAt, levelBreak}
 use Rattle.walk.specs.Chain.{Setting}
 use Rattle.walk.specs.Walk.{settings}
@@ -23,79 +26,29 @@ use Rattle.walk.specs.Raise.{raiseAll}
 use Rattle.walk.specs.Post.{Walked}
 use Rattle.walk.proofs.Laws.{raises-length}
 use Rattle.walk.proofs.Raised.{raised-at}
-use Rattle.hyphenation.specs.Sheet.{sheetFrom, sheet, written, bit}
 use Rattle.hyphenation.specs.Levels.{levelAt, levelSheet, wordLooks}
 use Rattle.hyphenation.specs.Post.{Done, lineSheet, oddSheet, Inside}
-use Rattle.hyphenation.proofs.Laws.{sheet-length, sheet-at, break-left, break-right, break-outer}
-
--- a room that has a sheet, byte by byte
-pub written-length : (f : ℕ → ℕ) (d : List ℕ) → roomSize ≤ length d → length (written (sheet f) d) ≡ length d
-unfolding written sheet
-written-length f d h =
-    length-append (sheetFrom f 0 roomSize) (drop roomSize d) ∙ omega (arith, sheet-length f 0 roomSize, length-drop roomSize d)
-
-pub written-low : (f : ℕ → ℕ) (d : List ℕ) (i : ℕ) → i < roomSize → getD (written (sheet f) d) i 0 ≡ f i
-unfolding written sheet
-written-low f d i h =
-    List·getD-append (sheetFrom f 0 roomSize) (drop roomSize d) 0 i (omega (arith, sheet-length f 0 roomSize)) ∙ sheet-at f 0 roomSize i h ∙ ap f (omega arith)
-
-pub written-high : (f : ℕ → ℕ) (d : List ℕ) (i : ℕ) → roomSize ≤ i → getD (written (sheet f) d) i 0 ≡ getD d i 0
-unfolding written sheet
-written-high f d i h =
-    let e : i ≡ length (sheetFrom f 0 roomSize) + (i - roomSize) = omega (arith, sheet-length f 0 roomSize) in
-    let g : roomSize + (i - roomSize) ≡ i = omega arith in
-    ap (λ (k : ℕ). getD (sheetFrom f 0 roomSize ++ drop roomSize d) k 0) e
-    ∙ getD-append-add (sheetFrom f 0 roomSize) (drop roomSize d) (i - roomSize) 0
-    ∙ getD-drop roomSize d (i - roomSize) 0
-    ∙ ap (λ (k : ℕ). getD d k 0) g
-
-pub written-is : (f : ℕ → ℕ) (d a : List ℕ) → roomSize ≤ length d → length a ≡ length d → ((i : ℕ) → i < roomSize → getD a i 0 ≡ f i)
-    → ((i : ℕ) → roomSize ≤ i → i < length d → getD a i 0 ≡ getD d i 0) → a ≡ written (sheet f) d
-written-is f d a h l low high = ext-getD 0 a (written (sheet f) d) (l ∙ sym (written-length f d h)) (λ i k. at i k (decLt i roomSize))
-  where
-    at : (i : ℕ) → i < length a → Dec (i < roomSize) → getD a i 0 ≡ getD (written (sheet f) d) i 0
-    at i k (yes p) = low i p ∙ sym (written-low f d i p)
-    at i k (no p) = high i (omega arith) (omega arith) ∙ sym (written-high f d i (omega arith))
-
-pub sheet-same : (f g : ℕ → ℕ) → ((i : ℕ) → i < roomSize → f i ≡ g i) → sheet f ≡ sheet g
-unfolding sheet
-sheet-same f g e =
-    ext-getD 0 (sheetFrom f 0 roomSize) (sheetFrom g 0 roomSize) (sheet-length f 0 roomSize ∙ sym (sheet-length g 0 roomSize))
-    (λ i k. at i (omega (arith, k, sheet-length f 0 roomSize)))
-  where
-    at : (i : ℕ) → i < roomSize → getD (sheetFrom f 0 roomSize) i 0 ≡ getD (sheetFrom g 0 roomSize) i 0
-    at i k = sheet-at f 0 roomSize i k ∙ e (0 + i) (omega arith) ∙ sym (sheet-at g 0 roomSize i k)
-
-pub written-again : (f g : ℕ → ℕ) (d : List ℕ) → written (sheet f) (written (sheet g) d) ≡ written (sheet f) d
-unfolding written sheet
-written-again f g d =
-    ap (λ (l : List ℕ). sheetFrom f 0 roomSize ++ l)
-    (ap (λ (k : ℕ). drop k (sheetFrom g 0 roomSize ++ drop roomSize d)) (sym (sheet-length g 0 roomSize)) ∙ drop-append-seam (sheetFrom g 0 roomSize) (drop roomSize d))
-
-pub written-take : (f : ℕ → ℕ) (d : List ℕ) → take roomSize (written (sheet f) d) ≡ sheet f
-unfolding written sheet
-written-take f d =
-    ap (λ (k : ℕ). take k (sheetFrom f 0 roomSize ++ drop roomSize d)) (sym (sheet-length f 0 roomSize)) ∙ take-append-seam (sheetFrom f 0 roomSize) (drop roomSize d)
+use Rattle.hyphenation.proofs.Laws.{break-left, break-right, break-outer}
 
 -- the level room
 module _ (cells entries : List ℕ) (root : ℕ) (word room : List ℕ) (short : length word ≤ wordLimit) (large : roomSize ≤ length room) where
-  pub levels-room : raiseAll (length word) (settings cells entries root 0 (rowOf word)) (written (sheet (λ i. 0)) room) ≡ written (levelSheet cells entries root word) room
+  pub levels-room : raiseAll (length word) (settings cells entries root 0 (rowOf word)) (written roomSize (sheet roomSize (λ i. 0)) room) ≡ written roomSize (levelSheet cells entries root word) room
   unfolding levelSheet
   levels-room =
-      written-is (levelAt cells entries root word) room (raiseAll (length word) sets clean) large
-      (raises-length (length word) sets clean ∙ written-length (λ i. 0) room large) low high
+      written-is roomSize (levelAt cells entries root word) room (raiseAll (length word) sets clean) large
+      (raises-length (length word) sets clean ∙ written-length roomSize (λ i. 0) room large) low high
     where
       sets : List Setting
       sets = settings cells entries root 0 (rowOf word)
 
       clean : List ℕ
-      clean = written (sheet (λ i. 0)) room
+      clean = written roomSize (sheet roomSize (λ i. 0)) room
 
       fits : (i : ℕ) → i < length room → i < length clean
-      fits i k = omega (arith, k, written-length (λ i. 0) room large)
+      fits i k = omega (arith, k, written-length roomSize (λ i. 0) room large)
 
       low : (i : ℕ) → i < roomSize → getD (raiseAll (length word) sets clean) i 0 ≡ levelAt cells entries root word i
-      low i k = unfold levelAt in (raised-at (length word) sets clean i (fits i (omega arith)) ∙ omega (arith, written-low (λ i. 0) room i k))
+      low i k = unfold levelAt in (raised-at (length word) sets clean i (fits i (omega arith)) ∙ omega (arith, written-low roomSize (λ i. 0) room i k))
 
       outside : (i : ℕ) → roomSize ≤ i → inner (length word) i ≡ false
       outside i k = unfold inner in rw (le-ltb i (length word) (omega arith)) (none (leb 1 i))
@@ -105,10 +58,10 @@ module _ (cells entries : List ℕ) (root : ℕ) (word room : List ℕ) (short :
           none false = refl
 
       high : (i : ℕ) → roomSize ≤ i → i < length room → getD (raiseAll (length word) sets clean) i 0 ≡ getD room i 0
-      high i k l = raised-at (length word) sets clean i (fits i l) ∙ rw (outside i k) (omega (arith, written-high (λ i. 0) room i k))
+      high i k l = raised-at (length word) sets clean i (fits i l) ∙ rw (outside i k) (omega (arith, written-high roomSize (λ i. 0) room i k))
 
   pub levels-done : {count : ℕ} {after : List ℕ}
-      → Walked cells entries root (length word) (rowOf word) (written (sheet (λ i. 0)) room) count after
+      → Walked cells entries root (length word) (rowOf word) (written roomSize (sheet roomSize (λ i. 0)) room) count after
       → Done (levelSheet cells entries root word) (wordLooks cells root word) room count after
   unfolding wordLooks
   levels-done w = record { counted = w .counted; memory = w .raised ∙ levels-room }
@@ -116,7 +69,7 @@ module _ (cells entries : List ℕ) (root : ℕ) (word room : List ℕ) (short :
 -- levels raised in an array of zeros
 module _ (cells entries : List ℕ) (root : ℕ) (word : List ℕ) (short : length word ≤ wordLimit) {count : ℕ} {levels : List ℕ}
     (w : Walked cells entries root (length word) (rowOf word) (replicate roomSize 0) count levels) where
-  clean : written (sheet (λ i. 0)) (replicate roomSize 0) ≡ replicate roomSize 0
+  clean : written roomSize (sheet roomSize (λ i. 0)) (replicate roomSize 0) ≡ replicate roomSize 0
   unfolding written sheet sheetFrom
   clean = refl
 
@@ -125,40 +78,31 @@ module _ (cells entries : List ℕ) (root : ℕ) (word : List ℕ) (short : leng
 
   raised-byte : (i : ℕ) → i < roomSize → getD levels i 0 ≡ levelAt cells entries root word i
   unfolding levelSheet
-  raised-byte i k = rw (raised .memory) (written-low (levelAt cells entries root word) (replicate roomSize 0) i k)
+  raised-byte i k = rw (raised .memory) (written-low roomSize (levelAt cells entries root word) (replicate roomSize 0) i k)
 
   pub raised-inside : Inside (length word) levels
   raised-inside i k e = raised-byte i k ∙ unfold levelAt in rw e
 
-  -- then put into the room as they are, or as breaks
-  pub levels-put : (room : List ℕ) {after : List ℕ} → after ≡ written (sheet (λ i. getD levels i 0)) room
-      → Done (levelSheet cells entries root word) (wordLooks cells root word) room count after
+  pub levels-size : length levels ≡ roomSize
   unfolding levelSheet
-  levels-put room e = record { counted = raised .counted; memory = e ∙ ap (λ (l : List ℕ). written l room) (sheet-same _ _ raised-byte) }
+  levels-size = omega (arith, ap length (raised .memory) ∙ written-length roomSize (levelAt cells entries root word) (replicate roomSize 0) (omega arith))
 
-  pub breaks-put : (left right : ℕ) (room : List ℕ) {after : List ℕ} → after ≡ written (sheet (λ i. bit (levelBreak left right (length word) (λ k. getD levels k 0) i))) room
+  -- then put into the room as they are, or as breaks
+  pub levels-put : (room : List ℕ) {after : List ℕ} → after ≡ paste room 0 levels roomSize → Done (levelSheet cells entries root word) (wordLooks cells root word) room count after
+  unfolding levelSheet
+  levels-put room e =
+      record {
+        counted = raised .counted;
+        memory = e ∙ copied-sheet roomSize levels room (omega (arith, levels-size)) ∙ ap (λ (l : List ℕ). written roomSize l room) (sheet-same roomSize _ _ raised-byte);
+      }
+
+  pub breaks-put : (left right : ℕ) (room : List ℕ) {after : List ℕ} → after ≡ written roomSize (sheet roomSize (λ i. bit (levelBreak left right (length word) (λ k. getD levels k 0) i))) room
       → Done (oddSheet left right cells entries root word) (wordLooks cells root word) room count after
   unfolding oddSheet
-  breaks-put left right room e = record { counted = raised .counted; memory = e ∙ ap (λ (l : List ℕ). written l room) (sheet-same _ _ same) }
+  breaks-put left right room e = record { counted = raised .counted; memory = e ∙ ap (λ (l : List ℕ). written roomSize l room) (sheet-same roomSize _ _ same) }
     where
       same : (i : ℕ) → i < roomSize → bit (levelBreak left right (length word) (λ k. getD levels k 0) i) ≡ bit (levelBreak left right (length word) (levelAt cells entries root word) i)
       same i k = unfold levelBreak in rw (raised-byte i k)
-
--- one byte of a sheet set
-set-written : (f g : ℕ → ℕ) (d : List ℕ) (k x : ℕ) → roomSize ≤ length d → k < roomSize → x ≡ g k → ((j : ℕ) → j < roomSize → (j ≡ k → ⊥) → f j ≡ g j)
-    → set (written (sheet f) d) k x ≡ written (sheet g) d
-set-written f g d k x large h e same =
-    written-is g d (set room k x) large (length-set room k x ∙ written-length f d large) (λ i l. low i l (ℕ-discrete i k)) (λ i l m. high i l)
-  where
-    room : List ℕ
-    room = written (sheet f) d
-
-    low : (i : ℕ) → i < roomSize → Dec (i ≡ k) → getD (set room k x) i 0 ≡ g i
-    low i l (yes p) = rw (p, getD-set-same room k x 0 (omega (arith, written-length f d large))) e
-    low i l (no p) = getD-set-other room k i x 0 p ∙ written-low f d i l ∙ same i l p
-
-    high : (i : ℕ) → roomSize ≤ i → getD (set room k x) i 0 ≡ getD d i 0
-    high i l = getD-set-other room k i x 0 (λ q. omega (arith, q)) ∙ written-high f d i l
 
 -- breaks put in from the left margin up to the last gap that the right margin leaves
 module _ (left right n : ℕ) (levels : List ℕ) where
@@ -177,14 +121,14 @@ module _ (left right n : ℕ) (levels : List ℕ) where
       go true p = rw (break-left left right n (λ k. getD levels k 0) j (ltb-true j left p))
       go false p = refl
 
-  pub breaks-start : (d room : List ℕ) → room ≡ written (sheet (λ j. 0)) d → room ≡ written (sheet (below left)) room
+  pub breaks-start : (d room : List ℕ) → room ≡ written roomSize (sheet roomSize (λ j. 0)) d → room ≡ written roomSize (sheet roomSize (below left)) room
   breaks-start d room e =
-      e ∙ sym (written-again (λ j. 0) (λ j. 0) d) ∙ ap (λ (l : List ℕ). written (sheet (λ j. 0)) l) (sym e)
-      ∙ ap (λ (l : List ℕ). written l room) (sheet-same _ _ (λ j k. below-left j))
+      e ∙ sym (written-again roomSize (λ j. 0) d (sheet roomSize (λ j. 0))) ∙ ap (λ (l : List ℕ). written roomSize (sheet roomSize (λ j. 0)) l) (sym e)
+      ∙ ap (λ (l : List ℕ). written roomSize l room) (sheet-same roomSize _ _ (λ j k. below-left j))
 
-  pub breaks-turn : (i : ℕ) (d : List ℕ) {room : List ℕ} {x : ℕ} → room ≡ written (sheet (below i)) d → roomSize ≤ length d → i < roomSize → x ≡ bit (levelBreak left right n (λ k. getD levels k 0) i)
-      → set room i x ≡ written (sheet (below (i + 1))) d
-  breaks-turn i d {x = x} e large h q = rw e (set-written (below i) (below (i + 1)) d i x large h (q ∙ here) same)
+  pub breaks-turn : (i : ℕ) (d : List ℕ) {room : List ℕ} {x : ℕ} → room ≡ written roomSize (sheet roomSize (below i)) d → roomSize ≤ length d → i < roomSize → x ≡ bit (levelBreak left right n (λ k. getD levels k 0) i)
+      → set room i x ≡ written roomSize (sheet roomSize (below (i + 1))) d
+  breaks-turn i d {x = x} e large h q = rw e (set-written roomSize (below i) (below (i + 1)) d i x large h (q ∙ here) same)
     where
       here : bit (broken i) ≡ below (i + 1) i
       here = rw (lt-ltb i (i + 1) (omega arith))
@@ -201,37 +145,37 @@ module _ (left right n : ℕ) (levels : List ℕ) where
   none j h (yes k) = break-right left right n (λ k. getD levels k 0) j (omega arith)
   none j h (no k) = break-outer left right n (λ k. getD levels k 0) j (omega arith)
 
-  pub breaks-end : (i : ℕ) (d : List ℕ) {room : List ℕ} → room ≡ written (sheet (below i)) d → n < i + right → room ≡ written (sheet (λ j. bit (levelBreak left right n (λ k. getD levels k 0) j))) d
-  breaks-end i d e h = e ∙ ap (λ (l : List ℕ). written l d) (sheet-same _ _ (λ j k. go j (ltb j i) refl))
+  pub breaks-end : (i : ℕ) (d : List ℕ) {room : List ℕ} → room ≡ written roomSize (sheet roomSize (below i)) d → n < i + right → room ≡ written roomSize (sheet roomSize (λ j. bit (levelBreak left right n (λ k. getD levels k 0) j))) d
+  breaks-end i d e h = e ∙ ap (λ (l : List ℕ). written roomSize l d) (sheet-same roomSize _ _ (λ j k. go j (ltb j i) refl))
     where
       go : (j : ℕ) (z : Bool) → ltb j i ≡ z → bit (z && broken j) ≡ bit (broken j)
       go j true p = refl
       go j false p = rw (none j (omega (arith, ltb-false j i p)) (decLt j n))
 
   -- what the room was before it was cleared doesn't matter
-  pub breaks-cleared : {room after : List ℕ} (d : List ℕ) → room ≡ written (sheet (λ j. 0)) d
-      → after ≡ written (sheet (λ j. bit (levelBreak left right n (λ k. getD levels k 0) j))) room → after ≡ written (sheet (λ j. bit (levelBreak left right n (λ k. getD levels k 0) j))) d
-  breaks-cleared d e f = f ∙ rw e (written-again (λ j. bit (broken j)) (λ j. 0) d)
+  pub breaks-cleared : {room after : List ℕ} (d : List ℕ) → room ≡ written roomSize (sheet roomSize (λ j. 0)) d
+      → after ≡ written roomSize (sheet roomSize (λ j. bit (levelBreak left right n (λ k. getD levels k 0) j))) room → after ≡ written roomSize (sheet roomSize (λ j. bit (levelBreak left right n (λ k. getD levels k 0) j))) d
+  breaks-cleared d e f = f ∙ rw e (written-again roomSize (λ j. 0) d (sheet roomSize (λ j. bit (broken j))))
 
 -- a line marked, byte by byte; `next` is the recursive call
-pub mark-length : (gap : ℕ) (line room : List ℕ) → length (mark gap line room) ≡ length room
-unfolding mark
+pub mark-length : (gap : ℕ) (line room : List ℕ) → length (markHyphens gap line room) ≡ length room
+unfolding markHyphens
 mark-length gap [] room = refl
 mark-length gap (b ∷ t) room = go (eqb b hyphen) (ltb gap roomSize) (λ g r. mark-length g t r)
   where
-    go : (z y : Bool) → ((g : ℕ) (r : List ℕ) → length (mark g t r) ≡ length r)
-        → length (cond z (mark gap t (cond y (set room gap 1) room)) (mark (gap + 1) t room)) ≡ length room
+    go : (z y : Bool) → ((g : ℕ) (r : List ℕ) → length (markHyphens g t r) ≡ length r)
+        → length (cond z (markHyphens gap t (cond y (set room gap 1) room)) (markHyphens (gap + 1) t room)) ≡ length room
     go true true next = next gap (set room gap 1) ∙ length-set room gap 1
     go true false next = next gap room
     go false y next = next (gap + 1) room
 
-mark-kept : (gap : ℕ) (line room : List ℕ) (i : ℕ) → (gap ≤ i → roomSize ≤ i) → getD (mark gap line room) i 0 ≡ getD room i 0
-unfolding mark
+mark-kept : (gap : ℕ) (line room : List ℕ) (i : ℕ) → (gap ≤ i → roomSize ≤ i) → getD (markHyphens gap line room) i 0 ≡ getD room i 0
+unfolding markHyphens
 mark-kept gap [] room i h = refl
 mark-kept gap (b ∷ t) room i h = go (eqb b hyphen) (ltb gap roomSize) refl (λ g r. mark-kept g t r i)
   where
-    go : (z y : Bool) → ltb gap roomSize ≡ y → ((g : ℕ) (r : List ℕ) → (g ≤ i → roomSize ≤ i) → getD (mark g t r) i 0 ≡ getD r i 0)
-        → getD (cond z (mark gap t (cond y (set room gap 1) room)) (mark (gap + 1) t room)) i 0 ≡ getD room i 0
+    go : (z y : Bool) → ltb gap roomSize ≡ y → ((g : ℕ) (r : List ℕ) → (g ≤ i → roomSize ≤ i) → getD (markHyphens g t r) i 0 ≡ getD r i 0)
+        → getD (cond z (markHyphens gap t (cond y (set room gap 1) room)) (markHyphens (gap + 1) t room)) i 0 ≡ getD room i 0
     go true true p next =
         next gap (set room gap 1) h
         ∙ getD-set-other room gap i 1 0 (λ q. omega (arith, q, h (omega (arith, q)), ltb-true gap roomSize p))
@@ -239,8 +183,8 @@ mark-kept gap (b ∷ t) room i h = go (eqb b hyphen) (ltb gap roomSize) refl (λ
     go false y p next = next (gap + 1) room (λ k. h (omega (arith, k)))
 
 mark-here : (gap : ℕ) (line room : List ℕ) (j : ℕ) → gap + j < roomSize → gap + j < length room
-    → getD (mark gap line room) (gap + j) 0 ≡ cond (hyphenAt line j) 1 (getD room (gap + j) 0)
-unfolding mark hyphenAt
+    → getD (markHyphens gap line room) (gap + j) 0 ≡ cond (hyphenAt line j) 1 (getD room (gap + j) 0)
+unfolding markHyphens hyphenAt
 mark-here gap [] room j h l = refl
 mark-here gap (b ∷ t) room zero h l = go (eqb b hyphen) (λ r k. mark-here gap t r zero h k)
   where
@@ -254,8 +198,8 @@ mark-here gap (b ∷ t) room zero h l = go (eqb b hyphen) (λ r k. mark-here gap
     one true = refl
     one false = refl
 
-    go : (z : Bool) → ((r : List ℕ) → gap + zero < length r → getD (mark gap t r) (gap + zero) 0 ≡ cond (hyphenAt t zero) 1 (getD r (gap + zero) 0))
-        → getD (cond z (mark gap t (cond (ltb gap roomSize) (set room gap 1) room)) (mark (gap + 1) t room)) (gap + zero) 0 ≡ cond z 1 (getD room (gap + zero) 0)
+    go : (z : Bool) → ((r : List ℕ) → gap + zero < length r → getD (markHyphens gap t r) (gap + zero) 0 ≡ cond (hyphenAt t zero) 1 (getD r (gap + zero) 0))
+        → getD (cond z (markHyphens gap t (cond (ltb gap roomSize) (set room gap 1) room)) (markHyphens (gap + 1) t room)) (gap + zero) 0 ≡ cond z 1 (getD room (gap + zero) 0)
     go true next =
         rw (lt-ltb gap roomSize below) (next (set room gap 1) (omega (arith, l, length-set room gap 1)) ∙ rw (at, getD-set-same room gap 1 0 (omega (arith, l))) (one (hyphenAt t zero)))
     go false next = mark-kept (gap + 1) t room (gap + zero) (λ k. omega (arith, k))
@@ -267,59 +211,68 @@ mark-here gap (b ∷ t) room (suc j) h l = go (eqb b hyphen) (λ r k. mark-here 
     on : gap + 1 + j ≡ gap + suc j
     on = omega arith
 
-    go : (z : Bool) → ((r : List ℕ) → gap + suc j < length r → getD (mark gap t r) (gap + suc j) 0 ≡ cond (hyphenAt t (suc j)) 1 (getD r (gap + suc j) 0))
-        → (gap + 1 + j < roomSize → gap + 1 + j < length room → getD (mark (gap + 1) t room) (gap + 1 + j) 0 ≡ cond (hyphenAt t j) 1 (getD room (gap + 1 + j) 0))
-        → getD (cond z (mark gap t (cond (ltb gap roomSize) (set room gap 1) room)) (mark (gap + 1) t room)) (gap + suc j) 0
+    go : (z : Bool) → ((r : List ℕ) → gap + suc j < length r → getD (markHyphens gap t r) (gap + suc j) 0 ≡ cond (hyphenAt t (suc j)) 1 (getD r (gap + suc j) 0))
+        → (gap + 1 + j < roomSize → gap + 1 + j < length room → getD (markHyphens (gap + 1) t room) (gap + 1 + j) 0 ≡ cond (hyphenAt t j) 1 (getD room (gap + 1 + j) 0))
+        → getD (cond z (markHyphens gap t (cond (ltb gap roomSize) (set room gap 1) room)) (markHyphens (gap + 1) t room)) (gap + suc j) 0
         ≡ cond (cond z (hyphenAt t (suc j)) (hyphenAt t j)) 1 (getD room (gap + suc j) 0)
     go true next step =
         rw (lt-ltb gap roomSize below) (next (set room gap 1) (omega (arith, l, length-set room gap 1)) ∙ rw (getD-set-other room gap (gap + suc j) 1 0 (λ q. omega (arith, q))))
     go false next step = rw on at (step (omega (arith, h)) (omega (arith, l)))
 
 -- the break room of an exception line
-pub line-room : (line room : List ℕ) → roomSize ≤ length room → mark 0 line (written (sheet (λ i. 0)) room) ≡ written (lineSheet line) room
+pub line-room : (line room : List ℕ) → roomSize ≤ length room → markHyphens 0 line (written roomSize (sheet roomSize (λ i. 0)) room) ≡ written roomSize (lineSheet line) room
 unfolding lineSheet
 line-room line room large =
-    written-is (λ i. bit (hyphenAt line i)) room (mark 0 line clean) large (mark-length 0 line clean ∙ written-length (λ i. 0) room large) low high
+    written-is roomSize (λ i. bit (hyphenAt line i)) room (markHyphens 0 line clean) large (mark-length 0 line clean ∙ written-length roomSize (λ i. 0) room large) low high
   where
     clean : List ℕ
-    clean = written (sheet (λ i. 0)) room
+    clean = written roomSize (sheet roomSize (λ i. 0)) room
 
     asBit : (z : Bool) → cond z 1 0 ≡ bit z
     asBit true = refl
     asBit false = refl
 
-    low : (i : ℕ) → i < roomSize → getD (mark 0 line clean) i 0 ≡ bit (hyphenAt line i)
+    low : (i : ℕ) → i < roomSize → getD (markHyphens 0 line clean) i 0 ≡ bit (hyphenAt line i)
     low i k =
         let z : 0 + i ≡ i = omega arith in
-        rw z at (mark-here 0 line clean i (omega arith) (omega (arith, written-length (λ i. 0) room large))) ∙ rw (written-low (λ i. 0) room i k) (asBit (hyphenAt line i))
+        rw z at (mark-here 0 line clean i (omega arith) (omega (arith, written-length roomSize (λ i. 0) room large))) ∙ rw (written-low roomSize (λ i. 0) room i k) (asBit (hyphenAt line i))
 
-    high : (i : ℕ) → roomSize ≤ i → i < length room → getD (mark 0 line clean) i 0 ≡ getD room i 0
-    high i k l = mark-kept 0 line clean i (λ q. k) ∙ written-high (λ i. 0) room i k
+    high : (i : ℕ) → roomSize ≤ i → i < length room → getD (markHyphens 0 line clean) i 0 ≡ getD room i 0
+    high i k l = mark-kept 0 line clean i (λ q. k) ∙ written-high roomSize (λ i. 0) room i k
 
 -- the breaks, by where the word's line stands
 module _ (left right root : ℕ) (word customer house cells entries room : List ℕ) {at : Located} (p : at ≡ findEither word customer house) where
   breaks-by : {l : Located} → at ≡ l
       → breakSheet left right customer house cells entries root word
-      ≡ sheet (λ i. bit (breakBy l customer house (levelBreak left right (length word) (levelAt cells entries root word)) i))
+      ≡ sheet roomSize (λ i. bit (breakBy l customer house (levelBreak left right (length word) (levelAt cells entries root word)) i))
   unfolding breakSheet isBreak
   breaks-by q =
-      ap (λ (l : Located). sheet (λ i. bit (breakBy l customer house (levelBreak left right (length word) (levelAt cells entries root word)) i))) (sym p ∙ q)
+      ap (λ (l : Located). sheet roomSize (λ i. bit (breakBy l customer house (levelBreak left right (length word) (levelAt cells entries root word)) i))) (sym p ∙ q)
 
   looks-by : {l : Located} → at ≡ l → breakLooks customer house cells root word ≡ unlessListed l (wordLooks cells root word)
   unfolding breakLooks
   looks-by q = ap (λ (l : Located). unlessListed l (wordLooks cells root word)) (sym p ∙ q)
 
-  pub by-customer : {start end : ℕ} {after : List ℕ} → at ≡ Customer start end → after ≡ written (lineSheet (take (end - start) (drop start customer))) room
+  pub by-customer : {start end : ℕ} {after : List ℕ} → at ≡ Customer start end → after ≡ written roomSize (lineSheet (take (end - start) (drop start customer))) room
       → Done (breakSheet left right customer house cells entries root word) (breakLooks customer house cells root word) room 0 after
   unfolding lineSheet
-  by-customer q r = record { counted = sym (looks-by q); memory = r ∙ ap (λ (l : List ℕ). written l room) (sym (breaks-by q)) }
+  by-customer q r = record { counted = sym (looks-by q); memory = r ∙ ap (λ (l : List ℕ). written roomSize l room) (sym (breaks-by q)) }
 
-  pub by-house : {start end : ℕ} {after : List ℕ} → at ≡ House start end → after ≡ written (lineSheet (take (end - start) (drop start house))) room
+  pub by-house : {start end : ℕ} {after : List ℕ} → at ≡ House start end → after ≡ written roomSize (lineSheet (take (end - start) (drop start house))) room
       → Done (breakSheet left right customer house cells entries root word) (breakLooks customer house cells root word) room 0 after
   unfolding lineSheet
-  by-house q r = record { counted = sym (looks-by q); memory = r ∙ ap (λ (l : List ℕ). written l room) (sym (breaks-by q)) }
+  by-house q r = record { counted = sym (looks-by q); memory = r ∙ ap (λ (l : List ℕ). written roomSize l room) (sym (breaks-by q)) }
 
   pub by-levels : {count : ℕ} {after : List ℕ} → at ≡ Nowhere → Done (oddSheet left right cells entries root word) (wordLooks cells root word) room count after
       → Done (breakSheet left right customer house cells entries root word) (breakLooks customer house cells root word) room count after
   unfolding oddSheet
-  by-levels q d = record { counted = d .counted ∙ sym (looks-by q); memory = d .memory ∙ ap (λ (l : List ℕ). written l room) (sym (breaks-by q)) }
+  by-levels q d = record { counted = d .counted ∙ sym (looks-by q); memory = d .memory ∙ ap (λ (l : List ℕ). written roomSize l room) (sym (breaks-by q)) }
+
+-- the ways to the breaks meet: what they leave is one room and one count, and the room keeps its length
+pub done-as : {bytes : List ℕ} {looks : ℕ} {d room after : List ℕ} {count n : ℕ} → room ≡ after → count ≡ n → Done bytes looks d n after → Done bytes looks d count room
+done-as e q d = record { counted = q ∙ d .counted; memory = e ∙ d .memory }
+
+pub breaks-kept : (left right : ℕ) (customer house cells entries : List ℕ) (root : ℕ) (word : List ℕ) {looks count : ℕ} {d after : List ℕ} → roomSize ≤ length d
+    → Done (breakSheet left right customer house cells entries root word) looks d count after → length after ≡ length d
+unfolding breakSheet
+breaks-kept left right customer house cells entries root word {d = d} large e = ap length (e .memory) ∙ written-length roomSize _ d large

@@ -9,25 +9,26 @@ use Rattle.base.specs.Limits.{patternLimit, wordLimit}
 use Rattle.base.specs.Grounds.{first}
 use Rattle.base.specs.declared.Check.{Check}
 use Rattle.base.specs.declared.Check.the-variants.{Fine, Refused}
+use Rattle.base.proofs.Lists.{clash}
+use Rattle.rooms.specs.Rooms.{sheet, nonzero, bit}
+use Rattle.rooms.proofs.Sheets.{sheet-same}
 use Rattle.words.specs.Symbols.{lower}
 use Rattle.words.specs.Words.{judgeWord, rowOf}
 use Rattle.words.proofs.Laws.{row-length}
 use Rattle.words.proofs.Theorems.{same-judgement, same-symbols, same-length}
 use Rattle.lists.specs.Lists.{judgeLists}
 use Rattle.lookup.specs.Find.{find, ownFirst, findEither}
-use Rattle.lookup.specs.declared.Found.{Found}
-use Rattle.lookup.specs.declared.Found.the-variants.{At, Nothing}
+use Rattle.lookup.specs.declared.ListLine.{ListLine}
+use Rattle.lookup.specs.declared.ListLine.the-variants.{At, Nothing}
 use Rattle.lookup.specs.declared.Located.{Located}
 use Rattle.lookup.specs.declared.Located.the-variants.{Customer, House, Nowhere}
 use Rattle.hyphenation.specs.Breaks.{breakBy, isBreak, breakSheet, unlessListed, breakLooks}
 use Rattle.liang.specs.Breaks.{levelBreak}
-use Rattle.table.specs.Table.{judgeTable, cellsOf, entriesOf}
+use Rattle.table.specs.Table.{rootBase, judgeTable, cellsOf, entriesOf}
 use Rattle.walk.specs.Walk.{looks}
 use Rattle.walk.proofs.Count.{looks-few}
-use Rattle.hyphenation.specs.Sheet.{sheet, nonzero, bit}
 use Rattle.hyphenation.specs.Levels.{levelAt, levelSheet, wordLooks}
-use Rattle.hyphenation.specs.Calls.{rootBase, judgeRoom, judgeMargins, judgeLevels, judgeHyphenate, judgeWordAlone, answer, Levels, Breaks, WordBreaks}
-use Rattle.hyphenation.proofs.Rooms.{sheet-same}
+use Rattle.hyphenation.specs.Calls.{judgeRoom, judgeMargins, judgeLevels, judgeHyphenate, judgeWordAlone, answer, Levels, Breaks, WordBreaks}
 use Rattle.hyphenation.proofs.Order.{levels-ordered, hyphenate-ordered, word-alone-ordered, promised, computed}
 use Rattle.hyphenation.specs.declared.Answer.{Answer}
 use Rattle.hyphenation.specs.declared.Answer.the-variants as answers
@@ -40,7 +41,7 @@ pub record Finding (judged : Check) (sheet : List ℕ) (count marks looks : ℕ)
 
 pub finding : (judged : Check) (sheet : List ℕ) (count marks looks : ℕ) → answers.Found marks looks ≡ answer judged sheet count → Finding judged sheet count marks looks
 finding Fine sheet count marks looks e = let m : marks ≡ nonzero sheet = cc in let l : looks ≡ count = cc in record { judged-fine = refl; marks-are = m; looks-are = l }
-finding (Refused g) sheet count marks looks e = let z : _≡_ {A = ℕ} 0 1 = cc in absurd (omega arith)
+finding (Refused g) sheet count marks looks e = clash cc
 
 pub word-few : (cells : List ℕ) (root : ℕ) (word : List ℕ) → wordLooks cells root word ≤ patternLimit * (length word + 2)
 unfolding wordLooks
@@ -94,7 +95,7 @@ module _ (word other : List ℕ) (letters : map lower word ≡ map lower other) 
 
   same-levels : (cells entries : List ℕ) (root : ℕ) → levelSheet cells entries root word ≡ levelSheet cells entries root other
   unfolding levelSheet
-  same-levels cells entries root = sheet-same _ _ (λ i h. same-at cells entries root i)
+  same-levels cells entries root = sheet-same _ _ _ (λ i h. same-at cells entries root i)
 
   same-looks : (cells : List ℕ) (root : ℕ) → wordLooks cells root word ≡ wordLooks cells root other
   unfolding wordLooks
@@ -108,7 +109,7 @@ module _ (word other : List ℕ) (letters : map lower word ≡ map lower other) 
       → breakSheet left right customer house cells entries root word ≡ breakSheet left right customer house cells entries root other
   unfolding breakSheet isBreak levelBreak
   same-breaks left right customer house cells entries root =
-      sheet-same _ _
+      sheet-same _ _ _
       (λ i h. ap bit (break-same (findEither word customer house) (findEither other customer house) customer house _ _ i (same-found customer house)
       (rw (same-at cells entries root i, same-length word other letters))))
 
@@ -138,7 +139,7 @@ module _ (word other : List ℕ) (letters : map lower word ≡ map lower other) 
       )
 
 -- The word's line in one list, as a list of none or one.
-pub ownLine : List ℕ → Found → List (List ℕ)
+pub ownLine : List ℕ → ListLine → List (List ℕ)
 ownLine text (At start end) = take (end - start) (drop start text) ∷ []
 ownLine text Nothing = []
 
@@ -146,26 +147,26 @@ ownLine text Nothing = []
 pub Agree : (word text text′ : List ℕ) → Type 0
 Agree word text text′ = ownLine text (find word text) ≡ ownLine text′ (find word text′)
 
-lines-decide : (f o f′ o′ : Found) (c h c′ h′ : List ℕ) (byLevel : ℕ → Bool) (i : ℕ) → ownLine c f ≡ ownLine c′ f′ → ownLine h o ≡ ownLine h′ o′
+lines-decide : (f o f′ o′ : ListLine) (c h c′ h′ : List ℕ) (byLevel : ℕ → Bool) (i : ℕ) → ownLine c f ≡ ownLine c′ f′ → ownLine h o ≡ ownLine h′ o′
     → breakBy (ownFirst f o) c h byLevel i ≡ breakBy (ownFirst f′ o′) c′ h′ byLevel i
 unfolding ownLine
 lines-decide (At s e) o (At s′ e′) o′ c h c′ h′ byLevel i p q = let l : take (e - s) (drop s c) ≡ take (e′ - s′) (drop s′ c′) = cc in rw l
-lines-decide (At s e) o Nothing o′ c h c′ h′ byLevel i p q = let z : _≡_ {A = ℕ} 0 1 = cc in absurd (omega arith)
-lines-decide Nothing o (At s′ e′) o′ c h c′ h′ byLevel i p q = let z : _≡_ {A = ℕ} 0 1 = cc in absurd (omega arith)
+lines-decide (At s e) o Nothing o′ c h c′ h′ byLevel i p q = clash cc
+lines-decide Nothing o (At s′ e′) o′ c h c′ h′ byLevel i p q = clash cc
 lines-decide Nothing (At s e) Nothing (At s′ e′) c h c′ h′ byLevel i p q = let l : take (e - s) (drop s h) ≡ take (e′ - s′) (drop s′ h′) = cc in rw l
-lines-decide Nothing (At s e) Nothing Nothing c h c′ h′ byLevel i p q = let z : _≡_ {A = ℕ} 0 1 = cc in absurd (omega arith)
-lines-decide Nothing Nothing Nothing (At s′ e′) c h c′ h′ byLevel i p q = let z : _≡_ {A = ℕ} 0 1 = cc in absurd (omega arith)
+lines-decide Nothing (At s e) Nothing Nothing c h c′ h′ byLevel i p q = clash cc
+lines-decide Nothing Nothing Nothing (At s′ e′) c h c′ h′ byLevel i p q = clash cc
 lines-decide Nothing Nothing Nothing Nothing c h c′ h′ byLevel i p q = refl
 
-lines-count : (f o f′ o′ : Found) (c h c′ h′ : List ℕ) (n : ℕ) → ownLine c f ≡ ownLine c′ f′ → ownLine h o ≡ ownLine h′ o′
+lines-count : (f o f′ o′ : ListLine) (c h c′ h′ : List ℕ) (n : ℕ) → ownLine c f ≡ ownLine c′ f′ → ownLine h o ≡ ownLine h′ o′
     → unlessListed (ownFirst f o) n ≡ unlessListed (ownFirst f′ o′) n
 unfolding ownLine
 lines-count (At s e) o (At s′ e′) o′ c h c′ h′ n p q = refl
-lines-count (At s e) o Nothing o′ c h c′ h′ n p q = let z : _≡_ {A = ℕ} 0 1 = cc in absurd (omega arith)
-lines-count Nothing o (At s′ e′) o′ c h c′ h′ n p q = let z : _≡_ {A = ℕ} 0 1 = cc in absurd (omega arith)
+lines-count (At s e) o Nothing o′ c h c′ h′ n p q = clash cc
+lines-count Nothing o (At s′ e′) o′ c h c′ h′ n p q = clash cc
 lines-count Nothing (At s e) Nothing (At s′ e′) c h c′ h′ n p q = refl
-lines-count Nothing (At s e) Nothing Nothing c h c′ h′ n p q = let z : _≡_ {A = ℕ} 0 1 = cc in absurd (omega arith)
-lines-count Nothing Nothing Nothing (At s′ e′) c h c′ h′ n p q = let z : _≡_ {A = ℕ} 0 1 = cc in absurd (omega arith)
+lines-count Nothing (At s e) Nothing Nothing c h c′ h′ n p q = clash cc
+lines-count Nothing Nothing Nothing (At s′ e′) c h c′ h′ n p q = clash cc
 lines-count Nothing Nothing Nothing Nothing c h c′ h′ n p q = refl
 
 -- "Other lines don't matter: two sets of good lists that agree on a word's lines, or on having none, give it the same breaks and
@@ -174,7 +175,7 @@ module _ (word c h c′ h′ : List ℕ) (own : Agree word c c′) (other : Agre
   agree-breaks : (left right : ℕ) (cells entries : List ℕ) (root : ℕ) → breakSheet left right c h cells entries root word ≡ breakSheet left right c′ h′ cells entries root word
   unfolding breakSheet isBreak findEither Agree
   agree-breaks left right cells entries root =
-      sheet-same _ _ (λ i k. ap bit (lines-decide (find word c) (find word h) (find word c′) (find word h′) c h c′ h′ (levelBreak left right (length word) (levelAt cells entries root word)) i own other))
+      sheet-same _ _ _ (λ i k. ap bit (lines-decide (find word c) (find word h) (find word c′) (find word h′) c h c′ h′ (levelBreak left right (length word) (levelAt cells entries root word)) i own other))
 
   agree-count : (cells : List ℕ) (root : ℕ) → breakLooks c h cells root word ≡ breakLooks c′ h′ cells root word
   unfolding breakLooks findEither Agree

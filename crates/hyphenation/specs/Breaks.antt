@@ -11,7 +11,7 @@ use Rattle.lookup.specs.declared.Located.{Located}
 use Rattle.lookup.specs.declared.Located.the-variants.{Customer, House, Nowhere}
 use Rattle.lookup.specs.Lookup.{lineOf}
 use Rattle.liang.specs.Breaks.{hyphenAt, levelBreak}
-use Rattle.hyphenation.specs.Sheet.{sheet, bit}
+use Rattle.rooms.specs.Rooms.{sheet, bit}
 use Rattle.hyphenation.specs.Levels.{levelAt, wordLooks}
 
 -- "if the word is in the customer's list, that line's hyphens; else those of its house line; else" the levels'. "An exception
@@ -28,7 +28,7 @@ isBreak left right customer house level word i =
 -- "byte i of the room is 1 if gap i is a break, the other bytes up to 63 are 0"
 unfoldable pub breakSheet : ℕ → ℕ → List ℕ → List ℕ → List ℕ → List ℕ → ℕ → List ℕ → List ℕ
 breakSheet left right customer house cells entries root word =
-    sheet (λ i. bit (isBreak left right customer house (levelAt cells entries root word) word i))
+    sheet roomSize (λ i. bit (isBreak left right customer house (levelAt cells entries root word) word i))
 
 -- "A break answer tells .. the count (0 for an exception word)".
 abbrev pub unlessListed : Located → ℕ → ℕ
@@ -41,6 +41,6 @@ breakLooks customer house cells root word = unlessListed (findEither word custom
 
 -- An exception line's hyphens put into a room byte by byte: 1 at the number of letters before each. `gap` letters stand before
 -- the first byte given.
-unfoldable pub mark : ℕ → List ℕ → List ℕ → List ℕ
-mark gap [] room = room
-mark gap (b ∷ t) room = cond (eqb b hyphen) (mark gap t (cond (ltb gap roomSize) (set room gap 1) room)) (mark (gap + 1) t room)
+unfoldable pub markHyphens : ℕ → List ℕ → List ℕ → List ℕ
+markHyphens gap [] room = room
+markHyphens gap (b ∷ t) room = cond (eqb b hyphen) (markHyphens gap t (cond (ltb gap roomSize) (set room gap 1) room)) (markHyphens (gap + 1) t room)

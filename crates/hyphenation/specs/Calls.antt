@@ -3,7 +3,6 @@ use Prim.Native.Nat.{ℕ}
 use mathlib.Core.Bool.{_||_}
 use mathlib.Core.List.{List, [], _∷_, _++_}
 use mathlib.Core.Path.{_≡_}
-use lib.Dec.{ltb}
 use lib.ListN.{length}
 use Rattle.base.specs.Limits.{wordLimit, roomSize}
 use Rattle.base.specs.Grounds.{told, Said, Finds, Refuses, Row, on, firstOf, first, refuseIf}
@@ -13,20 +12,16 @@ use Rattle.base.specs.declared.Ground.the-variants.{Margin, RoomShort}
 use Rattle.words.specs.Words.{wordGrounds, judgeWord}
 use Rattle.lists.specs.Lists.{listGrounds, judgeLists}
 use Rattle.liang.specs.Breaks.{badMargin}
-use Rattle.table.specs.Table.{tableGrounds, judgeTable, cellsOf, entriesOf}
-use Rattle.hyphenation.specs.Sheet.{written, nonzero}
+use Rattle.table.specs.Table.{rootBase, tableGrounds, judgeTable, cellsOf, entriesOf}
+use Rattle.rooms.specs.Rooms.{isShort, written, nonzero}
 use Rattle.hyphenation.specs.Levels.{levelSheet, wordLooks}
 use Rattle.hyphenation.specs.Breaks.{breakSheet, breakLooks}
 use Rattle.hyphenation.specs.declared.Answer.{Answer}
 use Rattle.hyphenation.specs.declared.Answer.the-variants as answers
 
--- "The base starts at 0."
-abbrev pub rootBase : ℕ
-rootBase = 0
-
 -- Ground 5: "break or level room under 64 bytes".
 unfoldable pub roomGrounds : ℕ → List Row
-roomGrounds size = on 5 (ltb size roomSize) ∷ []
+roomGrounds size = on 5 (isShort roomSize size) ∷ []
 
 -- Ground 1: "a margin outside 1 to 63".
 unfoldable pub marginGrounds : ℕ → ℕ → List Row
@@ -56,7 +51,7 @@ foundOr grounds sheet looks = firstOf (Finds (nonzero sheet ∷ looks ∷ [])) g
 
 -- "Refusals leave lent memory untouched"; a finding writes its sheet.
 abbrev pub roomLeft : Said → List ℕ → List ℕ → List ℕ
-roomLeft (Finds values) sheet room = written sheet room
+roomLeft (Finds values) sheet room = written roomSize sheet room
 roomLeft (Refuses t) sheet room = room
 
 -- The promise of a call by the order of its grounds, one sheet and one count of looks.
@@ -66,7 +61,7 @@ pub record Answers (grounds : List Row) (sheet : List ℕ) (looks : ℕ) (room :
 
 -- The same as it is computed: one judgement after the other, and then the answer and the room by what they come to.
 unfoldable pub judgeRoom : ℕ → Check
-judgeRoom size = refuseIf (ltb size roomSize) RoomShort
+judgeRoom size = refuseIf (isShort roomSize size) RoomShort
 
 unfoldable pub judgeMargins : ℕ → ℕ → Check
 judgeMargins left right = refuseIf (badMargin left || badMargin right) Margin
@@ -89,7 +84,7 @@ answer Fine sheet looks = answers.Found (nonzero sheet) looks
 answer (Refused g) sheet looks = answers.Refused g
 
 abbrev pub roomAfter : Check → List ℕ → List ℕ → List ℕ
-roomAfter Fine sheet room = written sheet room
+roomAfter Fine sheet room = written roomSize sheet room
 roomAfter (Refused g) sheet room = room
 
 pub record Answered (judged : Check) (sheet : List ℕ) (looks : ℕ) (room : List ℕ) (r : Answer) (after : List ℕ) : Type 0 where
@@ -107,6 +102,10 @@ levelsRoom word table room = roomAfter (judgeLevels word table (length room)) (l
 abbrev pub Levels : (word table room : List ℕ) → Answer → List ℕ → Type 0
 Levels word table room = Answers (levelsGrounds word table (length room))
     (levelSheet (cellsOf table) (entriesOf table) rootBase word) (wordLooks (cellsOf table) rootBase word) room
+
+-- Its part behind all judgements, over a table's cells and entries.
+abbrev pub LevelsFound : (cells entries : List ℕ) (root : ℕ) (word room : List ℕ) → Answer → List ℕ → Type 0
+LevelsFound cells entries root word room = Answered Fine (levelSheet cells entries root word) (wordLooks cells root word) room
 
 -- The hyphenating call's sheet and count over a table.
 abbrev pub breaksSheet : ℕ → ℕ → List ℕ → List ℕ → List ℕ → List ℕ → List ℕ
@@ -129,9 +128,10 @@ abbrev pub Breaks : (left right : ℕ) (word customer house table room : List �
 Breaks left right word customer house table room = Answers (hyphenateGrounds left right word customer house table (length room))
     (breaksSheet left right word customer house table) (breaksLooks word customer house table) room
 
--- Its part behind all judgements.
-abbrev pub Found : (left right : ℕ) (word customer house table room : List ℕ) → Answer → List ℕ → Type 0
-Found left right word customer house table room = Answered Fine (breaksSheet left right word customer house table) (breaksLooks word customer house table) room
+-- Its part behind all judgements, over a table's cells and entries.
+abbrev pub BreaksFound : (left right : ℕ) (word customer house cells entries : List ℕ) (root : ℕ) (room : List ℕ) → Answer → List ℕ → Type 0
+BreaksFound left right word customer house cells entries root room =
+    Answered Fine (breakSheet left right customer house cells entries root word) (breakLooks customer house cells root word) room
 
 -- The hyphenating call for a word alone: what it answers for a room of this size, and its promise.
 abbrev pub wordAnswer : ℕ → ℕ → List ℕ → List ℕ → List ℕ → List ℕ → ℕ → Answer

@@ -4,10 +4,11 @@ use Prim.Native.Nat.{ℕ, suc}
 use mathlib.Core.Bool.{cond}
 use mathlib.Core.List.{List}
 use lib.ListN.{length}
+use Rattle.base.specs.Limits.{roomSize}
 use Rattle.words.specs.Words.{rowOf, inner}
 use Rattle.walk.specs.Walk.{settings, looks}
 use Rattle.walk.specs.Raise.{highestSet}
-use Rattle.hyphenation.specs.Sheet.{sheet}
+use Rattle.rooms.specs.Rooms.{sheet}
 
 -- "Over any table, checked or not, both calls give each inner gap the highest level so set, else 0 ..; levels set at other gaps
 -- are dropped." Gap i has the first edge and i letters before it.
@@ -16,7 +17,7 @@ levelAt cells entries root word i = cond (inner (length word) i) (highestSet (se
 
 -- "levels in bytes 1 to n - 1", "the other bytes up to 63 are 0"
 unfoldable pub levelSheet : List ℕ → List ℕ → ℕ → List ℕ → List ℕ
-levelSheet cells entries root word = sheet (levelAt cells entries root word)
+levelSheet cells entries root word = sheet roomSize (levelAt cells entries root word)
 
 -- "A word's count sums the walks from all n + 2 places."
 unfoldable pub wordLooks : List ℕ → ℕ → List ℕ → ℕ

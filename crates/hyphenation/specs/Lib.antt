@@ -1,4 +1,3 @@
-pub mod Sheet
 pub mod Levels
 pub mod Breaks
 pub mod Calls

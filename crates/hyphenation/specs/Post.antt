@@ -7,20 +7,20 @@ use Rattle.liang.specs.Breaks.{hyphenAt, levelBreak}
 use lib.ListN.{length, getD}
 use Rattle.base.specs.Limits.{roomSize}
 use Rattle.words.specs.Words.{inner}
-use Rattle.hyphenation.specs.Sheet.{sheet, written, bit}
+use Rattle.rooms.specs.Rooms.{sheet, written, bit}
 use Rattle.hyphenation.specs.Levels.{levelAt}
 
 -- A sheet written into the room, and a count of looks returned.
 pub record Done (bytes : List ℕ) (looks : ℕ) (room : List ℕ) (count : ℕ) (after : List ℕ) : Type 0 where
   pub counted : count ≡ looks
-  pub memory : after ≡ written bytes room
+  pub memory : after ≡ written roomSize bytes room
 
 -- The breaks by an exception line alone, and by the levels alone.
 unfoldable pub lineSheet : List ℕ → List ℕ
-lineSheet line = sheet (λ i. bit (hyphenAt line i))
+lineSheet line = sheet roomSize (λ i. bit (hyphenAt line i))
 
 unfoldable pub oddSheet : ℕ → ℕ → List ℕ → List ℕ → ℕ → List ℕ → List ℕ
-oddSheet left right cells entries root word = sheet (λ i. bit (levelBreak left right (length word) (levelAt cells entries root word) i))
+oddSheet left right cells entries root word = sheet roomSize (λ i. bit (levelBreak left right (length word) (levelAt cells entries root word) i))
 
 -- Levels of a word of n letters stand at inner gaps only.
 abbrev pub Inside : ℕ → List ℕ → Type 0

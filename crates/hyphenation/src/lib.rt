@@ -5,17 +5,17 @@ use lookup::Located;
 ghost use mathlib.Core.List.{[]};
 ghost use mathlib.Core.Path.{_≡_};
 ghost use Prim.Native.Nat.{_≤_};
-ghost use lib.ListN.{length, take, getD};
+ghost use lib.ListN.{length, getD};
 ghost use Rattle.base.specs.Limits.{roomSize, wordLimit};
 ghost use Rattle.base.specs.Grounds.{Finds, says, firstOf};
 ghost use Rattle.base.specs.declared.Check.{Check};
 ghost use Rattle.words.specs.Words.{judgeWord};
 ghost use Rattle.liang.specs.Breaks.{badMargin, levelBreak};
-ghost use Rattle.hyphenation.specs.Sheet.{sheet, written, nonzero, bit};
-ghost use Rattle.hyphenation.specs.Levels.{levelSheet, wordLooks};
-ghost use Rattle.hyphenation.specs.Breaks.{mark, breakSheet, breakLooks};
+ghost use Rattle.rooms.specs.Rooms.{sheet, written, bit};
+ghost use Rattle.hyphenation.specs.Levels.{wordLooks};
+ghost use Rattle.hyphenation.specs.Breaks.{markHyphens};
 ghost use Rattle.hyphenation.specs.Post.{Done, lineSheet, oddSheet, Inside};
-ghost use Rattle.hyphenation.specs.Calls.{roomGrounds, marginGrounds, levelsGrounds, hyphenateGrounds, wordAloneGrounds, Levels, Breaks, Found, WordBreaks};
+ghost use Rattle.hyphenation.specs.Calls.{roomGrounds, marginGrounds, levelsGrounds, hyphenateGrounds, wordAloneGrounds, LevelsFound, Levels, BreaksFound, Breaks, WordBreaks};
 
 // What a call answers: how many bytes of the room it set, with the count of looks, or why it refuses.
 pub enum Answer {
@@ -27,7 +27,7 @@ pub enum Answer {
 pub fn judge_room(size: usize) -> Check
     ensures { λ r. ⌜ says r ≡ firstOf (Finds []) (roomGrounds size) ⌝ }
 {
-    if size < base::ROOM {
+    if rooms::is_short(size, base::ROOM_SIZE) {
         return Check::Refused(Ground::RoomShort);
     }
     Check::Fine
@@ -112,61 +112,20 @@ pub fn judge_hyphenate(
     table::judge_table(table)
 }
 
-// Zeros in the first bytes of a room.
-fn clear(room: &mut [u8])
-    requires { ⌜ roomSize ≤ length (now room) ⌝ }
-    ensures { λ _. ⌜ now (room .exit) ≡ written (sheet (λ i. 0)) (now (room .entry)) ⌝ }
-{
-    let mut i = 0;
-    while i < base::ROOM {
-        room[i] = 0;
-        i += 1;
-    }
-}
-
-// Levels put into the first bytes of a room.
-fn put_levels(levels: &[u8; base::ROOM], room: &mut [u8])
-    requires { ⌜ roomSize ≤ length (now room) ⌝ }
-    ensures { λ _. ⌜ now (room .exit) ≡ written (sheet (λ i. getD (now (levels .entry)) i 0)) (now (room .entry)) ⌝ }
-{
-    let mut i = 0;
-    while i < base::ROOM { // the bytes behind the word's gaps too
-        room[i] = levels[i];
-        i += 1;
-    }
-}
-
-// How many of the first bytes of a room aren't 0.
-fn count_marks(room: &[u8]) -> usize
-    requires { ⌜ roomSize ≤ length (now room) ⌝ }
-    ensures { λ r. ⌜ r ≡ nonzero (take roomSize (now (room .entry))) ⌝ }
-{
-    let mut count: u8 = 0;
-    let mut i = 0;
-    while i < base::ROOM {
-        let b = room[i];
-        i += 1;
-        if b != 0 {
-            count += 1;
-        }
-    }
-    count as usize
-}
-
 // An exception line's hyphens, put into the room.
 fn mark_line(line: &[u8], room: &mut [u8])
     requires { ⌜ roomSize ≤ length (now room) ⌝ }
-    ensures { λ _. ⌜ now (room .exit) ≡ mark 0 (now (line .entry)) (now (room .entry)) ⌝ }
+    ensures { λ _. ⌜ now (room .exit) ≡ markHyphens 0 (now (line .entry)) (now (room .entry)) ⌝ }
 {
     let mut gap: usize = 0;
     let mut i = 0;
     while i < line.len() {
         let b = line[i];
         i += 1;
-        if b != 45 {
+        if b != words::HYPHEN {
             gap += 1;
         } else {
-            if gap < base::ROOM {
+            if gap < base::ROOM_SIZE {
                 room[gap] = 1;
             }
         }
@@ -174,11 +133,11 @@ fn mark_line(line: &[u8], room: &mut [u8])
 }
 
 // The levels of a word of n letters put into a room as breaks: only gaps inside the margins are looked at.
-fn put_breaks(left: usize, right: usize, n: usize, levels: &[u8; base::ROOM], room: &mut [u8])
+fn put_breaks(left: usize, right: usize, n: usize, levels: &[u8; base::ROOM_SIZE], room: &mut [u8])
     requires { ⌜ (roomSize ≤ length (now room)) × (n ≤ wordLimit) × Inside n (now levels) ⌝ }
-    ensures { λ _. ⌜ now (room .exit) ≡ written (sheet (λ i. bit (levelBreak left right n (λ k. getD (now (levels .entry)) k 0) i))) (now (room .entry)) ⌝ }
+    ensures { λ _. ⌜ now (room .exit) ≡ written roomSize (sheet roomSize (λ i. bit (levelBreak left right n (λ k. getD (now (levels .entry)) k 0) i))) (now (room .entry)) ⌝ }
 {
-    clear(room);
+    rooms::clear_from(room, 0, base::ROOM_SIZE);
     if n < right {
         return;
     }
@@ -190,28 +149,32 @@ fn put_breaks(left: usize, right: usize, n: usize, levels: &[u8; base::ROOM], ro
     }
 }
 
-// The levels of a judged word in a judged room, and the count of looks.
-fn levels_judged(cells: &[u8], entries: &[u8], root: u16, word: &[u8], room: &mut [u8]) -> usize
+// The levels of a judged word in a judged room.
+fn find_levels(cells: &[u8], entries: &[u8], root: u16, word: &[u8], room: &mut [u8]) -> Answer
     requires { ⌜ (judgeWord wordLimit (now word) ≡ Check.Fine) × (roomSize ≤ length (now room)) ⌝ }
-    ensures { λ r. ⌜ Done (levelSheet (now (cells .entry)) (now (entries .entry)) root (now (word .entry))) (wordLooks (now (cells .entry)) root (now (word .entry))) (now (room .entry)) r (now (room .exit)) ⌝ }
+    ensures { λ r. ⌜ LevelsFound (now (cells .entry)) (now (entries .entry)) root (now (word .entry)) (now (room .entry)) r (now (room .exit)) ⌝ }
 {
-    let mut levels = [0u8; base::ROOM];
+    let mut levels = [0u8; base::ROOM_SIZE];
     let looks = walk::walk_word(cells, entries, root, word, &mut levels);
-    put_levels(&levels, room);
-    looks
+    rooms::copy_to(room, 0, &levels, base::ROOM_SIZE);
+    let marks = rooms::count_marks(room, base::ROOM_SIZE);
+    Answer::Found {
+        marks: marks,
+        looks: looks,
+    }
 }
 
-// The breaks of a judged word by an exception line.
-fn line_judged(line: &[u8], room: &mut [u8])
+// The breaks by an exception line.
+fn put_line_breaks(line: &[u8], room: &mut [u8])
     requires { ⌜ roomSize ≤ length (now room) ⌝ }
-    ensures { λ _. ⌜ now (room .exit) ≡ written (lineSheet (now (line .entry))) (now (room .entry)) ⌝ }
+    ensures { λ _. ⌜ now (room .exit) ≡ written roomSize (lineSheet (now (line .entry))) (now (room .entry)) ⌝ }
 {
-    clear(room);
+    rooms::clear_from(room, 0, base::ROOM_SIZE);
     mark_line(line, room);
 }
 
-// The breaks of a judged word by the levels.
-fn table_judged(
+// The breaks of a judged word by the levels, and the count of looks.
+fn put_level_breaks(
     left: usize,
     right: usize,
     cells: &[u8],
@@ -223,14 +186,14 @@ fn table_judged(
     requires { ⌜ (judgeWord wordLimit (now word) ≡ Check.Fine) × (roomSize ≤ length (now room)) ⌝ }
     ensures { λ r. ⌜ Done (oddSheet left right (now (cells .entry)) (now (entries .entry)) root (now (word .entry))) (wordLooks (now (cells .entry)) root (now (word .entry))) (now (room .entry)) r (now (room .exit)) ⌝ }
 {
-    let mut levels = [0u8; base::ROOM];
+    let mut levels = [0u8; base::ROOM_SIZE];
     let looks = walk::walk_word(cells, entries, root, word, &mut levels);
     put_breaks(left, right, word.len(), &levels, room);
     looks
 }
 
-// The breaks of a judged word over judged lists and a judged table.
-fn breaks_judged<'a>(
+// The breaks of a judged word in a judged room.
+fn find_breaks<'a>(
     left: usize,
     right: usize,
     word: &[u8],
@@ -240,41 +203,23 @@ fn breaks_judged<'a>(
     entries: &[u8],
     root: u16,
     room: &mut [u8],
-) -> usize
-    requires { ⌜ (judgeWord wordLimit (now word) ≡ Check.Fine) × (roomSize ≤ length (now room)) ⌝ }
-    ensures { λ r. ⌜ Done (breakSheet left right (now (customer .entry)) (now (house .entry)) (now (cells .entry)) (now (entries .entry)) root (now (word .entry))) (breakLooks (now (customer .entry)) (now (house .entry)) (now (cells .entry)) root (now (word .entry))) (now (room .entry)) r (now (room .exit)) ⌝ }
-{
-    let at = lookup::find_either(word, customer, house);
-    match at {
-        Located::Customer { start, end } => {
-            line_judged(&customer[start..end], room);
-            0
-        }
-        Located::House { start, end } => {
-            line_judged(&house[start..end], room);
-            0
-        }
-        Located::Nowhere => table_judged(left, right, cells, entries, root, word, room),
-    }
-}
-
-// The breaks of a judged word over judged lists and a judged table, as a finding.
-fn find_breaks<'a>(
-    left: usize,
-    right: usize,
-    word: &[u8],
-    customer: &'a [u8],
-    house: &'a [u8],
-    table: &[u8],
-    room: &mut [u8],
 ) -> Answer
     requires { ⌜ (judgeWord wordLimit (now word) ≡ Check.Fine) × (roomSize ≤ length (now room)) ⌝ }
-    ensures { λ r. ⌜ Found left right (now (word .entry)) (now (customer .entry)) (now (house .entry)) (now (table .entry)) (now (room .entry)) r (now (room .exit)) ⌝ }
+    ensures { λ r. ⌜ BreaksFound left right (now (word .entry)) (now (customer .entry)) (now (house .entry)) (now (cells .entry)) (now (entries .entry)) root (now (room .entry)) r (now (room .exit)) ⌝ }
 {
-    let cells = table::cells_of(table);
-    let entries = table::entries_of(table);
-    let looks = breaks_judged(left, right, word, customer, house, cells, entries, 0, room);
-    let marks = count_marks(room);
+    let at = lookup::find_either(word, customer, house);
+    let looks = match at {
+        Located::Customer { start, end } => {
+            put_line_breaks(&customer[start..end], room);
+            0 // a customer's line takes no look
+        }
+        Located::House { start, end } => {
+            put_line_breaks(&house[start..end], room);
+            0 // nor does the house's
+        }
+        Located::Nowhere => put_level_breaks(left, right, cells, entries, root, word, room),
+    };
+    let marks = rooms::count_marks(room, base::ROOM_SIZE);
     Answer::Found {
         marks: marks,
         looks: looks,
@@ -291,12 +236,7 @@ pub fn levels(word: &[u8], table: &[u8], room: &mut [u8]) -> Answer
     }
     let cells = table::cells_of(table);
     let entries = table::entries_of(table);
-    let looks = levels_judged(cells, entries, 0, word, room);
-    let marks = count_marks(room);
-    Answer::Found {
-        marks: marks,
-        looks: looks,
-    }
+    find_levels(cells, entries, table::ROOT_BASE, word, room)
 }
 
 // The hyphenating call.
@@ -315,7 +255,19 @@ pub fn hyphenate<'a>(
     if let Check::Refused(g) = judged {
         return Answer::Refused(g);
     }
-    find_breaks(left, right, word, customer, house, table, room)
+    let cells = table::cells_of(table);
+    let entries = table::entries_of(table);
+    find_breaks(
+        left,
+        right,
+        word,
+        customer,
+        house,
+        cells,
+        entries,
+        table::ROOT_BASE,
+        room,
+    )
 }
 
 // The hyphenating call for a word, where margins, lists and table were judged before: whoever has many words judges these once.
@@ -335,5 +287,17 @@ pub fn hyphenate_word<'a>(
     if let Check::Refused(g) = judged {
         return Answer::Refused(g);
     }
-    find_breaks(left, right, word, customer, house, table, room)
+    let cells = table::cells_of(table);
+    let entries = table::entries_of(table);
+    find_breaks(
+        left,
+        right,
+        word,
+        customer,
+        house,
+        cells,
+        entries,
+        table::ROOT_BASE,
+        room,
+    )
 }

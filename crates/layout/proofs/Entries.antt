@@ -9,15 +9,15 @@ use borrow.Author.Tests.{lt-ltb, le-ltb}
 use lib.Dec.{ltb, eqb}
 use lib.ListN.{length, getD, replicate, length-replicate, length-append, List·getD-append}
 use lib.Seq.{getD-append-seam}
-use Rattle.base.specs.Limits.{entries}
-use Rattle.base.specs.Tests.{same}
+use Rattle.base.specs.Limits.{entryLimit}
+use Rattle.base.specs.Tests.{sameList}
 use Rattle.base.proofs.Lists.{same-true, same-self}
 use Rattle.liang.specs.Patterns.{Pattern}
 use Rattle.patterns.specs.Strings.{nth}
-use Rattle.table.specs.Table.{entryKind, entrySize, numberAt}
-use Rattle.fit.specs.Entries.{holds, findEntry, putEntry, Entries, TooMany, Made, enterAt, enter, enterLevels, afresh, enterPattern, Outputs, Over, Out, putOutput, outputOf, outputsOf}
-use Rattle.fitted.proofs.Chains.{entry-length, entry-kept, entry-kind, entry-distance, entry-level, entry-high, entry-low}
-use Rattle.fitted.proofs.Outputs.{outputs-over, lastOf, outputAt}
+use Rattle.table.specs.Table.{entryKind, entrySize, numberAt, rootBase, entryRoom}
+use Rattle.fit.specs.Entries.{holds, findEntry, putEntry, Entries, TooMany, Made, enterAt, enter, enterLevels, afresh, enterPattern, Outputs, Over, Out, putOutput, outputOf, outputsOf, emptyEntries}
+use Rattle.fit_trie.proofs.Chains.{entry-length, entry-kept, entry-kind, entry-distance, entry-level, entry-high, entry-low}
+use Rattle.fit_trie.proofs.Outputs.{outputs-over, lastOf, outputAt}
 use Rattle.layout.specs.Entries.{Entry, equal, firstEqual, Entering, addAt, addLevel, addLevels, addPattern, addPatterns, noEntries, outputFrom}
 
 abbrev pub noEntry : Entry
@@ -40,14 +40,14 @@ stored-next bytes k x s =
 
 -- the bytes hold the entries made
 pub record Stores (so : Entering) (bytes : List ℕ) (count last : ℕ) : Type 0 where
-  pub size : length bytes ≡ entrySize * entries
-  pub few : count ≤ entries
+  pub size : length bytes ≡ entryRoom
+  pub few : count ≤ entryLimit
   pub counted : count ≡ length (so .made)
   pub ended : last ≡ so .last
   pub each : (k : ℕ) → k < count → Stored bytes k (getD (so .made) k noEntry)
 
 abbrev StoresIn : Entering → Entries → Type 0
-StoresIn so TooMany = entries < length (so .made)
+StoresIn so TooMany = entryLimit < length (so .made)
 StoresIn so (Made bytes count last) = Stores so bytes count last
 
 -- the searches find the same
@@ -87,7 +87,7 @@ module _ (d l : ℕ) (so : Entering) (bytes : List ℕ) (count last : ℕ) (s : 
   abbrev after : List ℕ
   after = putEntry bytes (entrySize * count) d l last
 
-  stored-more : count < entries → Stores (record { made = so .made ++ (entry ∷ []); last = suc (length (so .made)) }) after (suc count) (suc count)
+  stored-more : count < entryLimit → Stores (record { made = so .made ++ (entry ∷ []); last = suc (length (so .made)) }) after (suc count) (suc count)
   stored-more h =
       record {
         size = entry-length bytes (entrySize * count) d l last room ∙ s .size;
@@ -139,12 +139,12 @@ module _ (d l : ℕ) (so : Entering) (bytes : List ℕ) (count last : ℕ) (s : 
     where
       go : (found : ℕ) (z : Bool)
           → StoresIn (picked z (record { made = so .made ++ (entry ∷ []); last = suc (length (so .made)) }) (record { made = so .made; last = found }))
-          (cond z (cond (ltb count entries) (Made after (suc count) (suc count)) TooMany) (Made bytes count found))
-      go found true = of (decLt count entries)
+          (cond z (cond (ltb count entryLimit) (Made after (suc count) (suc count)) TooMany) (Made bytes count found))
+      go found true = of (decLt count entryLimit)
         where
-          of : Dec (count < entries) → StoresIn (record { made = so .made ++ (entry ∷ []); last = suc (length (so .made)) }) (cond (ltb count entries) (Made after (suc count) (suc count)) TooMany)
-          of (yes h) = rw (lt-ltb count entries h) (stored-more h)
-          of (no h) = rw (le-ltb count entries (omega arith)) (omega (arith, s .counted, length-append (so .made) (entry ∷ [])))
+          of : Dec (count < entryLimit) → StoresIn (record { made = so .made ++ (entry ∷ []); last = suc (length (so .made)) }) (cond (ltb count entryLimit) (Made after (suc count) (suc count)) TooMany)
+          of (yes h) = rw (lt-ltb count entryLimit h) (stored-more h)
+          of (no h) = rw (le-ltb count entryLimit (omega arith)) (omega (arith, s .counted, length-append (so .made) (entry ∷ [])))
       go found false = record { size = s .size; few = s .few; counted = s .counted; ended = refl; each = s .each }
 
 add-level : (d l : ℕ) (so : Entering) (made : Entries) → StoresIn so made → StoresIn (addLevel d l so) (enter d l made)
@@ -187,68 +187,68 @@ many-pattern p = many-levels (p .levels) (length (p .symbols)) (suc (length (p .
 
 -- the outputs of all patterns
 abbrev pub StoresOut : Entering → Outputs → Type 0
-StoresOut so Over = entries < length (so .made)
+StoresOut so Over = entryLimit < length (so .made)
 StoresOut so (Out cells bytes count) = Stores (anew so) bytes count 0
 
-put-output : (p : Pattern) (so : Entering) (cs : List ℕ) (made : Entries) → StoresIn so made → StoresOut so (putOutput p cs made)
+put-output : (root : ℕ) (p : Pattern) (so : Entering) (cs : List ℕ) (made : Entries) → StoresIn so made → StoresOut so (putOutput root p cs made)
 unfolding putOutput
-put-output p so cs TooMany s = s
-put-output p so cs (Made bytes count last) s = record { size = s .size; few = s .few; counted = s .counted; ended = refl; each = s .each }
+put-output root p so cs TooMany s = s
+put-output root p so cs (Made bytes count last) s = record { size = s .size; few = s .few; counted = s .counted; ended = refl; each = s .each }
 
-add-output : (p : Pattern) (so : Entering) (outs : Outputs) → StoresOut so outs → StoresOut (addPattern p so) (outputOf p outs)
+add-output : (root : ℕ) (p : Pattern) (so : Entering) (outs : Outputs) → StoresOut so outs → StoresOut (addPattern p so) (outputOf root p outs)
 unfolding outputOf
-add-output p so Over s = subst (λ (y : Entries). StoresIn (addPattern p so) y) (many-pattern p) (add-pattern p so TooMany s)
-add-output p so (Out cs bytes count) s = put-output p (addPattern p so) cs (enterPattern p (Made bytes count 0)) (add-pattern p so (Made bytes count 0) s)
+add-output root p so Over s = subst (λ (y : Entries). StoresIn (addPattern p so) y) (many-pattern p) (add-pattern p so TooMany s)
+add-output root p so (Out cs bytes count) s = put-output root p (addPattern p so) cs (enterPattern p (Made bytes count 0)) (add-pattern p so (Made bytes count 0) s)
 
-add-outputs : (ps : List Pattern) (so : Entering) (outs : Outputs) → StoresOut so outs → StoresOut (addPatterns ps so) (outputsOf ps outs)
+add-outputs : (root : ℕ) (ps : List Pattern) (so : Entering) (outs : Outputs) → StoresOut so outs → StoresOut (addPatterns ps so) (outputsOf root ps outs)
 unfolding addPatterns outputsOf
-add-outputs [] so outs s = s
-add-outputs (p ∷ ps) so outs s = add-outputs ps (addPattern p so) (outputOf p outs) (add-output p so outs s)
+add-outputs root [] so outs s = s
+add-outputs root (p ∷ ps) so outs s = add-outputs root ps (addPattern p so) (outputOf root p outs) (add-output root p so outs s)
 
-none-stored : (n : ℕ) → n ≡ entrySize * entries → Stores noEntries (replicate n 0) 0 0
+none-stored : (n : ℕ) → n ≡ entryRoom → Stores noEntries (replicate n 0) 0 0
 none-stored n e = record { size = length-replicate {A = ℕ} n 0 ∙ e; few = omega arith; counted = refl; ended = refl; each = λ k h. absurd (omega arith) }
 
 -- The entries of a whole list, whatever the cells hold: in the bytes, or there are more than 2,048.
-pub all-stored : (patterns : List Pattern) (cs : List ℕ) → StoresOut (addPatterns patterns noEntries) (outputsOf patterns (Out cs (replicate (entrySize * entries) 0) 0))
-all-stored patterns cs = add-outputs patterns noEntries (Out cs (replicate (entrySize * entries) 0) 0) (none-stored (entrySize * entries) refl)
+pub all-stored : (patterns : List Pattern) (cs : List ℕ) → StoresOut (addPatterns patterns noEntries) (outputsOf rootBase patterns (Out cs emptyEntries 0))
+all-stored patterns cs = add-outputs rootBase patterns noEntries (Out cs emptyEntries 0) (none-stored entryRoom refl)
 
 -- a pattern's output, where all outputs have room
-output-same : (ps : List Pattern) (so : Entering) (cs bytes : List ℕ) (count : ℕ) → Stores (anew so) bytes count 0 → (outputsOf ps (Out cs bytes count) ≡ Over → ⊥) → (i : ℕ) → i < length ps
+output-same : (root : ℕ) (ps : List Pattern) (so : Entering) (cs bytes : List ℕ) (count : ℕ) → Stores (anew so) bytes count 0 → (outputsOf root ps (Out cs bytes count) ≡ Over → ⊥) → (i : ℕ) → i < length ps
     → ((j : ℕ) → j < i → nth ps j .symbols ≡ nth ps i .symbols → ⊥) → outputAt ps i (Made bytes count 0) ≡ outputFrom ps so (nth ps i .symbols)
 unfolding outputAt outputFrom outputsOf outputOf putOutput
-output-same [] so cs bytes count s room i h differ = absurd (omega arith)
-output-same (p ∷ ps) so cs bytes count s room zero h differ = rw (same-self (p .symbols)) (go (enterPattern p (Made bytes count 0)) (add-pattern p so (Made bytes count 0) s) room)
+output-same root [] so cs bytes count s room i h differ = absurd (omega arith)
+output-same root (p ∷ ps) so cs bytes count s room zero h differ = rw (same-self (p .symbols)) (go (enterPattern p (Made bytes count 0)) (add-pattern p so (Made bytes count 0) s) room)
   where
-    go : (made : Entries) → StoresIn (addPattern p so) made → (outputsOf ps (putOutput p cs made) ≡ Over → ⊥) → lastOf made ≡ addPattern p so .last
-    go TooMany t r = absurd (r (outputs-over ps))
+    go : (made : Entries) → StoresIn (addPattern p so) made → (outputsOf root ps (putOutput root p cs made) ≡ Over → ⊥) → lastOf made ≡ addPattern p so .last
+    go TooMany t r = absurd (r (outputs-over root ps))
     go (Made b c l) t r = t .ended
-output-same (p ∷ ps) so cs bytes count s room (suc i) h differ =
-    rw (other (same (p .symbols) (nth ps i .symbols)) refl)
+output-same root (p ∷ ps) so cs bytes count s room (suc i) h differ =
+    rw (other (sameList (p .symbols) (nth ps i .symbols)) refl)
     (go (enterPattern p (Made bytes count 0)) (add-pattern p so (Made bytes count 0) s) room
-    (λ c b n t r. output-same ps (addPattern p so) c b n t r i (omega arith) (λ j l. differ (suc j) (omega arith))))
+    (λ c b n t r. output-same root ps (addPattern p so) c b n t r i (omega arith) (λ j l. differ (suc j) (omega arith))))
   where
-    other : (z : Bool) → same (p .symbols) (nth ps i .symbols) ≡ z → z ≡ false
+    other : (z : Bool) → sameList (p .symbols) (nth ps i .symbols) ≡ z → z ≡ false
     other true e = absurd (differ 0 (omega arith) (same-true (p .symbols) (nth ps i .symbols) e))
     other false e = refl
 
-    go : (made : Entries) → StoresIn (addPattern p so) made → (outputsOf ps (putOutput p cs made) ≡ Over → ⊥)
-        → ((c b : List ℕ) (n : ℕ) → Stores (anew (addPattern p so)) b n 0 → (outputsOf ps (Out c b n) ≡ Over → ⊥) → outputAt ps i (Made b n 0) ≡ outputFrom ps (addPattern p so) (nth ps i .symbols))
+    go : (made : Entries) → StoresIn (addPattern p so) made → (outputsOf root ps (putOutput root p cs made) ≡ Over → ⊥)
+        → ((c b : List ℕ) (n : ℕ) → Stores (anew (addPattern p so)) b n 0 → (outputsOf root ps (Out c b n) ≡ Over → ⊥) → outputAt ps i (Made b n 0) ≡ outputFrom ps (addPattern p so) (nth ps i .symbols))
         → outputAt ps i (afresh made) ≡ outputFrom ps (addPattern p so) (nth ps i .symbols)
-    go TooMany t r next = absurd (r (outputs-over ps))
+    go TooMany t r next = absurd (r (outputs-over root ps))
     go (Made b c l) t r next = next _ b c (record { size = t .size; few = t .few; counted = t .counted; ended = refl; each = t .each }) r
 
 -- a string that is no pattern has none
 pub output-none : (ps : List Pattern) (so : Entering) (u : List ℕ) → ((i : ℕ) → i < length ps → nth ps i .symbols ≡ u → ⊥) → outputFrom ps so u ≡ 0
 unfolding outputFrom
 output-none [] so u none = refl
-output-none (p ∷ ps) so u none = go (same (p .symbols) u) refl (output-none ps (addPattern p so) u (λ i h. none (suc i) (omega arith)))
+output-none (p ∷ ps) so u none = go (sameList (p .symbols) u) refl (output-none ps (addPattern p so) u (λ i h. none (suc i) (omega arith)))
   where
-    go : (z : Bool) → same (p .symbols) u ≡ z → outputFrom ps (addPattern p so) u ≡ 0 → cond z (addPattern p so .last) (outputFrom ps (addPattern p so) u) ≡ 0
+    go : (z : Bool) → sameList (p .symbols) u ≡ z → outputFrom ps (addPattern p so) u ≡ 0 → cond z (addPattern p so .last) (outputFrom ps (addPattern p so) u) ≡ 0
     go true e next = absurd (none 0 (omega arith) (same-true (p .symbols) u e))
     go false e next = next
 
 -- The output that the packer issues for a pattern of the list.
-pub pattern-output : (patterns : List Pattern) (cs : List ℕ) → (outputsOf patterns (Out cs (replicate (entrySize * entries) 0) 0) ≡ Over → ⊥) → (i : ℕ) → i < length patterns
+pub pattern-output : (patterns : List Pattern) (cs : List ℕ) → (outputsOf rootBase patterns (Out cs emptyEntries 0) ≡ Over → ⊥) → (i : ℕ) → i < length patterns
     → ((j : ℕ) → j < i → nth patterns j .symbols ≡ nth patterns i .symbols → ⊥)
-    → outputAt patterns i (Made (replicate (entrySize * entries) 0) 0 0) ≡ outputFrom patterns noEntries (nth patterns i .symbols)
-pattern-output patterns cs room i h differ = output-same patterns noEntries cs (replicate (entrySize * entries) 0) 0 (none-stored (entrySize * entries) refl) room i h differ
+    → outputAt patterns i (Made emptyEntries 0 0) ≡ outputFrom patterns noEntries (nth patterns i .symbols)
+pattern-output patterns cs room i h differ = output-same rootBase patterns noEntries cs emptyEntries 0 (none-stored entryRoom refl) room i h differ

@@ -7,16 +7,16 @@ use native.Mathlib.Decide.{ℕ-discrete, decLt}
 use native.Mathlib.Omega.{arith}
 use lib.ListN.{length, getD, set, take, drop, replicate, length-set}
 use lib.Seq.{set-out, getD-set-same, getD-set-other}
-use Rattle.base.specs.Limits.{symbols, cells}
+use Rattle.base.specs.Limits.{symbolLimit}
 use Rattle.liang.specs.Patterns.{Pattern}
-use Rattle.patterns.specs.Next.{nextIn}
+use Rattle.patterns.specs.Next.{nextIn, opens}
 use Rattle.patterns.specs.Strings.{nth}
-use Rattle.table.specs.Table.{cellSize, numberAt}
-use Rattle.fit.specs.Cells.{putNumber, baseFor, inside, putCell, putCells, cellOf, putLink, Layout, Full, Fits, placeAt, place, opens, layoutOf}
+use Rattle.table.specs.Table.{cellSize, numberAt, rootBase, cellRoom}
+use Rattle.patterns.proofs.Sorted.{above}
+use Rattle.fit.specs.Cells.{putNumber, baseFor, inside, putCell, putCells, cellOf, putLink, Layout, Full, Fits, placeAt, place, layoutOf, emptyLayout}
 use Rattle.fit.specs.Entries.{Entries, TooMany, Made, enterPattern, Outputs, Over, Out, putOutput, outputOf, outputsOf}
-use Rattle.fitted.proofs.Bytes.{cell-kept}
-use Rattle.fitted.proofs.Opened.{above}
-use Rattle.fitted.proofs.Passes.{zero-byte, layout-kept}
+use Rattle.fit_trie.proofs.Bytes.{cell-kept}
+use Rattle.fit_trie.proofs.Passes.{zero-byte, list-kept}
 
 -- the low bytes of links and outputs
 pub record Low (bytes : List ℕ) : Type 0 where
@@ -55,36 +55,37 @@ low-cells child base (suc n) s bytes low = low-cells child base n (suc s) (cond 
         }
     go false = low
 
-low-link : (u : List ℕ) (base : ℕ) (bytes : List ℕ) → Low bytes → Low (putLink u base bytes)
+low-link : (root : ℕ) (u : List ℕ) (base : ℕ) (bytes : List ℕ) → Low bytes → Low (putLink root u base bytes)
 unfolding putLink
-low-link [] base bytes low = low
-low-link (s ∷ u) base bytes low =
+low-link root [] base bytes low = low
+low-link root (s ∷ u) base bytes low =
     record {
-      link = λ k. put-below (cellSize * cellOf bytes 0 (s ∷ u) + 2) base bytes (cellSize * k + 3) (λ e. omega (arith, e)) (low .link k);
-      output = λ k. put-below (cellSize * cellOf bytes 0 (s ∷ u) + 2) base bytes (cellSize * k + 5) (λ e. omega (arith, e)) (low .output k);
+      link = λ k. put-below (cellSize * cellOf bytes root (s ∷ u) + 2) base bytes (cellSize * k + 3) (λ e. omega (arith, e)) (low .link k);
+      output = λ k. put-below (cellSize * cellOf bytes root (s ∷ u) + 2) base bytes (cellSize * k + 5) (λ e. omega (arith, e)) (low .output k);
     }
 
 abbrev pub LowIn : Layout → Type 0
 LowIn Full = Unit
 LowIn (Fits bytes taken) = Low bytes
 
-low-place : (m : ℕ) (own : List ℕ) (ps : List Pattern) (layout : Layout) → LowIn layout → LowIn (place m own ps layout)
+low-place : (m : ℕ) (own : List ℕ) (ps : List Pattern) (layout : Layout) → LowIn layout → LowIn (place rootBase m own ps layout)
 unfolding place placeAt
 low-place m own ps Full low = tt
-low-place m own ps (Fits bytes taken) low = go (inside (nextIn m own ps) (baseFor m bytes taken (nextIn m own ps))) (baseFor m bytes taken (nextIn m own ps))
+low-place m own ps (Fits bytes taken) low = go (inside (nextIn m own ps) (baseFor rootBase m bytes taken (nextIn m own ps))) (baseFor rootBase m bytes taken (nextIn m own ps))
   where
-    go : (z : Bool) (base : ℕ) → LowIn (cond z (Fits (putLink (take m own) base (putCells (nextIn m own ps) base 1 symbols bytes)) (set taken base 1)) Full)
-    go true base = low-link (take m own) base _ (low-cells (nextIn m own ps) base symbols 1 bytes low)
+    go : (z : Bool) (base : ℕ) → LowIn (cond z (Fits (putLink rootBase (take m own) base (putCells (nextIn m own ps) base 1 symbolLimit bytes)) (set taken base 1)) Full)
+    go true base = low-link rootBase (take m own) base _ (low-cells (nextIn m own ps) base symbolLimit 1 bytes low)
     go false base = tt
 
 pub layout-low : (patterns : List Pattern) → LowIn (layoutOf patterns)
-layout-low patterns = layout-kept patterns (λ m k. LowIn) step (λ m layout low. low) (start (cellSize * cells))
+unfolding layoutOf
+layout-low patterns = list-kept rootBase patterns (λ m k. LowIn) step (λ m layout low. low) emptyLayout (start cellRoom)
   where
     step : (m k : ℕ) → k < length patterns → (layout : Layout) → LowIn layout
-        → LowIn (cond (opens m (above patterns k) (nth patterns k .symbols)) (place m (nth patterns k .symbols) (drop k patterns) layout) layout)
-    step m k h layout low = go (opens m (above patterns k) (nth patterns k .symbols))
+        → LowIn (cond (opens m (above [] patterns k) (nth patterns k .symbols)) (place rootBase m (nth patterns k .symbols) (drop k patterns) layout) layout)
+    step m k h layout low = go (opens m (above [] patterns k) (nth patterns k .symbols))
       where
-        go : (z : Bool) → LowIn (cond z (place m (nth patterns k .symbols) (drop k patterns) layout) layout)
+        go : (z : Bool) → LowIn (cond z (place rootBase m (nth patterns k .symbols) (drop k patterns) layout) layout)
         go true = low-place m (nth patterns k .symbols) (drop k patterns) layout low
         go false = low
 
@@ -95,20 +96,20 @@ abbrev pub LowOut : Outputs → Type 0
 LowOut Over = Unit
 LowOut (Out cs bytes count) = Low cs
 
-low-put : (p : Pattern) (cs : List ℕ) → Low cs → (made : Entries) → LowOut (putOutput p cs made)
+low-put : (root : ℕ) (p : Pattern) (cs : List ℕ) → Low cs → (made : Entries) → LowOut (putOutput root p cs made)
 unfolding putOutput
-low-put p cs low TooMany = tt
-low-put p cs low (Made bytes count last) =
+low-put root p cs low TooMany = tt
+low-put root p cs low (Made bytes count last) =
     record {
-      link = λ k. put-below (cellSize * cellOf cs 0 (p .symbols) + 4) last cs (cellSize * k + 3) (λ e. omega (arith, e)) (low .link k);
-      output = λ k. put-below (cellSize * cellOf cs 0 (p .symbols) + 4) last cs (cellSize * k + 5) (λ e. omega (arith, e)) (low .output k);
+      link = λ k. put-below (cellSize * cellOf cs root (p .symbols) + 4) last cs (cellSize * k + 3) (λ e. omega (arith, e)) (low .link k);
+      output = λ k. put-below (cellSize * cellOf cs root (p .symbols) + 4) last cs (cellSize * k + 5) (λ e. omega (arith, e)) (low .output k);
     }
 
-pub outputs-low : (ps : List Pattern) (outs : Outputs) → LowOut outs → LowOut (outputsOf ps outs)
+pub outputs-low : (root : ℕ) (ps : List Pattern) (outs : Outputs) → LowOut outs → LowOut (outputsOf root ps outs)
 unfolding outputsOf
-outputs-low [] outs low = low
-outputs-low (p ∷ ps) outs low = outputs-low ps (outputOf p outs) (go outs low)
+outputs-low root [] outs low = low
+outputs-low root (p ∷ ps) outs low = outputs-low root ps (outputOf root p outs) (go outs low)
   where
-    go : (outs : Outputs) → LowOut outs → LowOut (outputOf p outs)
+    go : (outs : Outputs) → LowOut outs → LowOut (outputOf root p outs)
     go Over low = unfold outputOf in tt
-    go (Out cs bytes count) low = unfold outputOf in low-put p cs low (enterPattern p (Made bytes count 0))
+    go (Out cs bytes count) low = unfold outputOf in low-put root p cs low (enterPattern p (Made bytes count 0))

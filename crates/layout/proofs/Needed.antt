@@ -10,7 +10,7 @@ use borrow.Author.Tests.{ltb-false}
 use lib.Dec.{ltb}
 use lib.ListN.{length, length-append}
 use lib.Seq.{getD-append-seam}
-use Rattle.base.specs.Limits.{symbols, cells}
+use Rattle.base.specs.Limits.{symbolLimit, cellLimit}
 use Rattle.base.proofs.Lists.{never}
 use Rattle.liang.specs.Patterns.{Pattern}
 use Rattle.base.specs.Tests.{allFrom}
@@ -39,14 +39,14 @@ module _ (patterns : List Pattern) where
           rw g (omega arith)
 
   -- every cell used lies below
-  pub top-each : (placed : List Based) (i s : ℕ) → i < length placed → 1 ≤ s → s ≤ symbols → goesOn patterns (based placed i .path) s ≡ true → based placed i .base + s < topOf patterns placed
+  pub top-each : (placed : List Based) (i s : ℕ) → i < length placed → 1 ≤ s → s ≤ symbolLimit → goesOn patterns (based placed i .path) s ≡ true → based placed i .base + s < topOf patterns placed
   unfolding topOf
   top-each [] i s h k l e = absurd (omega arith)
-  top-each (x ∷ placed) zero s h k l e = omega (arith, top-at x symbols 1 s k (omega arith) e)
+  top-each (x ∷ placed) zero s h k l e = omega (arith, top-at x symbolLimit 1 s k (omega arith) e)
   top-each (x ∷ placed) (suc i) s h k l e = omega (arith, top-each placed i s (omega arith) k l e)
 
   -- and so do those of one path more
-  pub top-over : (x : Based) (placed : List Based) (s : ℕ) → 1 ≤ s → s ≤ symbols → goesOn patterns (x .path) s ≡ true → x .base + s < topOf patterns (placed ++ (x ∷ []))
+  pub top-over : (x : Based) (placed : List Based) (s : ℕ) → 1 ≤ s → s ≤ symbolLimit → goesOn patterns (x .path) s ≡ true → x .base + s < topOf patterns (placed ++ (x ∷ []))
   top-over x placed s h l e =
       let q = getD-append-seam placed x [] root in
       let r = top-each (placed ++ (x ∷ [])) (length placed) s (omega (arith, length-append placed (x ∷ []))) h l (ap (λ (y : Based). goesOn patterns (y .path) s) q ∙ e) in
@@ -72,7 +72,7 @@ module _ (patterns : List Pattern) where
   unfolding topOf
   top-most limit h [] f = h
   top-most limit h (x ∷ placed) f =
-      let a = top-under x limit symbols 1 h (λ t k l e. f 0 t (omega arith) e) in
+      let a = top-under x limit symbolLimit 1 h (λ t k l e. f 0 t (omega arith) e) in
       let b = top-most limit h placed (λ i t l. f (suc i) t (omega arith)) in
       omega arith
 
@@ -100,7 +100,7 @@ module _ (patterns : List Pattern) where
     topmost : (placed : List Based) → Topmost placed (topOf patterns placed)
     unfolding topOf usesCell
     topmost [] = inl refl
-    topmost (x ∷ placed) = go (topFrom patterns x 1 symbols) (topmost-from x symbols 1) (topOf patterns placed) (topmost placed)
+    topmost (x ∷ placed) = go (topFrom patterns x 1 symbolLimit) (topmost-from x symbolLimit 1) (topOf patterns placed) (topmost placed)
       where
         own : (t : ℕ) → goesOn patterns (x .path) t ≡ true → (usedBy patterns (x .base + t) x || usesCell patterns (x .base + t) placed) ≡ true
         own t g =
@@ -131,16 +131,16 @@ module _ (patterns : List Pattern) where
 
 -- a needed cell behind the last that there may be
 abbrev pub Past : (ℕ → Bool) → ℕ → Type 0
-Past child base = (s : ℕ) × ((1 ≤ s) × ((s ≤ symbols) × ((child s ≡ true) × (cells ≤ base + s))))
+Past child base = (s : ℕ) × ((1 ≤ s) × ((s ≤ symbolLimit) × ((child s ≡ true) × (cellLimit ≤ base + s))))
 
-past-from : (child : ℕ → Bool) (base n s : ℕ) → 1 ≤ s → s + n ≡ suc symbols → allFrom (λ t. not (child t) || ltb (base + t) cells) s n ≡ false → Past child base
+past-from : (child : ℕ → Bool) (base n s : ℕ) → 1 ≤ s → s + n ≡ suc symbolLimit → allFrom (λ t. not (child t) || ltb (base + t) cellLimit) s n ≡ false → Past child base
 unfolding allFrom
 past-from child base zero s h l q = never (sym q)
-past-from child base (suc n) s h l q = split (child s) refl (ltb (base + s) cells) refl q (past-from child base n (suc s) (omega arith) (omega arith))
+past-from child base (suc n) s h l q = split (child s) refl (ltb (base + s) cellLimit) refl q (past-from child base n (suc s) (omega arith) (omega arith))
   where
-    split : (a : Bool) → child s ≡ a → (b : Bool) → ltb (base + s) cells ≡ b → ((not a || b) && allFrom (λ t. not (child t) || ltb (base + t) cells) (suc s) n) ≡ false
-        → (allFrom (λ t. not (child t) || ltb (base + t) cells) (suc s) n ≡ false → Past child base) → Past child base
-    split true p false r w next = (s, (h, (omega arith, (p, ltb-false (base + s) cells r))))
+    split : (a : Bool) → child s ≡ a → (b : Bool) → ltb (base + s) cellLimit ≡ b → ((not a || b) && allFrom (λ t. not (child t) || ltb (base + t) cellLimit) (suc s) n) ≡ false
+        → (allFrom (λ t. not (child t) || ltb (base + t) cellLimit) (suc s) n ≡ false → Past child base) → Past child base
+    split true p false r w next = (s, (h, (omega arith, (p, ltb-false (base + s) cellLimit r))))
     split true p true r w next = next w
     split false p true r w next = next w
     split false p false r w next = next w
@@ -148,4 +148,4 @@ past-from child base (suc n) s h l q = split (child s) refl (ltb (base + s) cell
 -- a base that is not inside needs one
 pub not-inside : (child : ℕ → Bool) (base : ℕ) → inside child base ≡ false → Past child base
 unfolding inside
-not-inside child base e = past-from child base symbols 1 (omega arith) (omega arith) e
+not-inside child base e = past-from child base symbolLimit 1 (omega arith) (omega arith) e

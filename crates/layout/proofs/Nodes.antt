@@ -9,7 +9,7 @@ use borrow.Author.Tests.{eqb-true, eq-eqb, ne-eqb, ltb-true, lt-ltb}
 use lib.Dec.{ltb, eqb}
 use lib.ListN.{length, getD, length-append, List·getD-append}
 use lib.Seq.{getD-append-seam}
-use Rattle.base.specs.Limits.{symbols}
+use Rattle.base.specs.Limits.{symbolLimit}
 use Rattle.base.proofs.Lists.{never, both}
 use Rattle.liang.specs.Patterns.{Pattern}
 use Rattle.liang.specs.Levels.{begins}
@@ -17,10 +17,11 @@ use Rattle.patterns.specs.Strings.{Beginning, nth, Shaped, Sorted}
 use Rattle.base.proofs.All.{all-same}
 use Rattle.patterns.proofs.Strings.{begins-alphabet, _▸_, snoc-length, alphabet-last}
 use Rattle.fit.specs.Cells.{isFree, serves}
-use Rattle.fitted.proofs.Bytes.{symbolIn}
-use Rattle.fitted.proofs.Nodes.{Node, node, Goes}
-use Rattle.fitted.proofs.Placing.{Laid}
-use Rattle.fitted.proofs.Opened.{Opened, goes-beginning, beginning-goes}
+use Rattle.fit_trie.proofs.Bytes.{symbolIn}
+use Rattle.fit_trie.proofs.Nodes.{Node, node, Goes}
+use Rattle.fit_trie.proofs.Placing.{Laid}
+use Rattle.fit_trie.proofs.Passes.{emptySite, empty-owner, empty-unmarked}
+use Rattle.fit_trie.proofs.Opened.{Opened, goes-beginning, beginning-goes}
 use Rattle.layout.specs.Bases.{Based, goesOn, hasBase, usedBy, usesCell, fitsAt}
 use Rattle.layout.specs.FirstFit.{root, based}
 
@@ -53,7 +54,7 @@ says-goes ps u s b = line-goes u s ps (b .at) (b .within) (b .stands)
 
 -- the symbols with which paths of good patterns go on
 abbrev pub Symbolic : List Pattern → Type 0
-Symbolic patterns = (u : List ℕ) (s : ℕ) → goesOn patterns u s ≡ true → (1 ≤ s) × (s ≤ symbols)
+Symbolic patterns = (u : List ℕ) (s : ℕ) → goesOn patterns u s ≡ true → (1 ≤ s) × (s ≤ symbolLimit)
 
 pub symbolic : (patterns : List Pattern) → ((i : ℕ) → i < length patterns → Shaped (nth patterns i)) → Symbolic patterns
 symbolic patterns shaped u s e =
@@ -168,7 +169,7 @@ module _ (patterns : List Pattern) (sorted : Sorted patterns) (low : Symbolic pa
       let q : n - node nodes i .base ≡ s = omega arith in
       (omega arith, ap (goesOn patterns (node nodes i .path)) q ∙ goes-list i s h g)
 
-  module _ (bytes taken : List ℕ) (laid : Laid nodes bytes taken) (placed : List Based) (paired : Paired nodes placed) where
+  module _ (bytes taken : List ℕ) (laid : Laid emptySite nodes bytes taken) (placed : List Based) (paired : Paired nodes placed) where
     -- a base is marked where a path has it
     same-base : (b : ℕ) → eqb (getD taken b 0) 0 ≡ not (hasBase b placed)
     same-base b = go (hasBase b placed) refl
@@ -182,7 +183,7 @@ module _ (patterns : List Pattern) (sorted : Sorted patterns) (low : Symbolic pa
             ne-eqb (getD taken b 0) 0 (λ z. omega (arith, z, m))
         go false e =
             eq-eqb (getD taken b 0) 0
-            (laid .unmarked b (λ i h q. let w = paired .there i h in never (sym e ∙ based-has placed b (w .at) (w .inside) (ap (λ (x : Based). x .base) (w .holds) ∙ q))))
+            (empty-unmarked nodes bytes taken laid b (λ i h q. let w = paired .there i h in never (sym e ∙ based-has placed b (w .at) (w .inside) (ap (λ (x : Based). x .base) (w .holds) ∙ q))))
 
     -- a cell holds a symbol where a path uses it
     same-cell : (n : ℕ) → isFree bytes n ≡ not (usesCell patterns n placed)
@@ -204,16 +205,16 @@ module _ (patterns : List Pattern) (sorted : Sorted patterns) (low : Symbolic pa
             free : Dec (symbolIn bytes n ≡ 0) → symbolIn bytes n ≡ 0
             free (yes z) = z
             free (no d) =
-                let o = laid .owned .owner n d in
+                let o = empty-owner nodes bytes taken laid n d in
                 let w = paired .there (o .at) (o .inside) in
                 never (sym e ∙ based-uses patterns n placed (w .at) (w .inside)
                 (subst (λ (x : Based). Uses patterns n x) (sym (w .holds)) (owner-uses n (o .at) (symbolIn bytes n) (o .inside) (o .goes) (o .place))))
 
     -- A base serves a path in the bytes exactly where it fits among the paths, whatever base it is.
-    pub same-fit : (u : List ℕ) (child : ℕ → Bool) → ((s : ℕ) → 1 ≤ s → s ≤ symbols → child s ≡ goesOn patterns u s) → (b : ℕ) → serves bytes taken child b ≡ fitsAt patterns placed u b
+    pub same-fit : (u : List ℕ) (child : ℕ → Bool) → ((s : ℕ) → 1 ≤ s → s ≤ symbolLimit → child s ≡ goesOn patterns u s) → (b : ℕ) → serves bytes taken child b ≡ fitsAt patterns placed u b
     unfolding serves fitsAt
     same-fit u child same b =
         rw (same-base b)
         (ap (λ (z : Bool). not (hasBase b placed) && z)
-        (all-same (λ s. not (child s) || isFree bytes (b + s)) (λ s. not (goesOn patterns u s) || not (usesCell patterns (b + s) placed)) 1 symbols
+        (all-same (λ s. not (child s) || isFree bytes (b + s)) (λ s. not (goesOn patterns u s) || not (usesCell patterns (b + s) placed)) 1 symbolLimit
         (λ s h k. rw (same s h (omega arith), same-cell (b + s)))))

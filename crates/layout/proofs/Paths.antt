@@ -17,10 +17,11 @@ use Rattle.liang.specs.Patterns.{Pattern}
 use Rattle.liang.specs.Levels.{begins}
 use Rattle.patterns.specs.Strings.{nth, noPattern, Sorted}
 use Rattle.patterns.proofs.Strings.{most-each, _▸_, snoc-length, begins-take, begins-length, take-begins, begins-init}
-use Rattle.fit.specs.Cells.{opens}
-use Rattle.fitted.proofs.Opened.{above, opens-says, opens-not, opens-first}
-use Rattle.fitted.proofs.Passes.{take-common}
-use Rattle.layout.specs.Bases.{goesOn, pathsAt, pathsFrom, longest, pathsOf}
+use Rattle.patterns.specs.Next.{opens}
+use Rattle.patterns.proofs.Sorted.{above}
+use Rattle.fit_trie.proofs.Opened.{opens-says, opens-not, opens-first}
+use Rattle.fit_trie.proofs.Passes.{take-common}
+use Rattle.layout.specs.Bases.{goesOn, pathsAt, pathsFrom, longestLength, pathsOf}
 use Rattle.layout.specs.FirstFit.{Ascends}
 use Rattle.layout.proofs.Nodes.{goes-says, line-goes}
 
@@ -101,18 +102,18 @@ module _ (patterns : List Pattern) (sorted : Sorted patterns) where
   -- the paths of m symbols from pattern k on
   module _ (m : ℕ) where
     abbrev from : ℕ → List (List ℕ)
-    from k = pathsAt m (above patterns k) (drop k patterns)
+    from k = pathsAt m (above [] patterns k) (drop k patterns)
 
     abbrev opening : ℕ → Bool
-    opening k = opens m (above patterns k) (own k)
+    opening k = opens m (above [] patterns k) (own k)
 
     from-turn : (k : ℕ) → k < length patterns → from k ≡ cond (opening k) (take m (own k) ∷ from (suc k)) (from (suc k))
     unfolding pathsAt
-    from-turn k h = ap (pathsAt m (above patterns k)) (drop-cons patterns k noPattern h)
+    from-turn k h = ap (pathsAt m (above [] patterns k)) (drop-cons patterns k noPattern h)
 
     from-end : (k : ℕ) → length patterns ≤ k → from k ≡ []
     unfolding pathsAt
-    from-end k h = ap (pathsAt m (above patterns k)) (drop-of-length-le patterns h)
+    from-end k h = ap (pathsAt m (above [] patterns k)) (drop-of-length-le patterns h)
 
     -- each is opened by a pattern
     record Opens (k : ℕ) (u : List ℕ) : Type 0 where
@@ -139,7 +140,7 @@ module _ (patterns : List Pattern) (sorted : Sorted patterns) where
             first (suc i) h = next i (omega arith)
 
     long : (k : ℕ) → opening k ≡ true → m < length (own k)
-    long k p = opens-says m (above patterns k) (own k) p .0
+    long k p = opens-says m (above [] patterns k) (own k) p .0
 
     size : (k : ℕ) → opening k ≡ true → length (take m (own k)) ≡ m
     size k p = length-take-le m (own k) (omega (arith, long k p))
@@ -236,19 +237,19 @@ module _ (patterns : List Pattern) (sorted : Sorted patterns) where
       go (yes e) next = listed-front (pathsAt m [] patterns) (pathsFrom (suc m) n patterns) u (subst (λ (k : ℕ). Listed (pathsAt k [] patterns) u) e w)
       go (no d) next = listed-behind (pathsAt m [] patterns) (pathsFrom (suc m) n patterns) u (next (omega arith) (omega arith) w)
 
-  longest-each : (j : ℕ) → j < length patterns → length (own j) ≤ longest patterns
-  unfolding longest
-  longest-each j h = most-each (λ p. length (p .symbols)) longest refl (λ p ps. refl) patterns j h
+  longest-each : (j : ℕ) → j < length patterns → length (own j) ≤ longestLength patterns
+  unfolding longestLength
+  longest-each j h = most-each (λ p. length (p .symbols)) longestLength refl (λ p ps. refl) patterns j h
 
   -- "Paths by length, then symbol order"
   pub paths-ascend : Ascending (pathsOf patterns)
   unfolding pathsOf
-  paths-ascend = lengths-ascend (longest patterns) 0
+  paths-ascend = lengths-ascend (longestLength patterns) 0
 
   -- a path of the list has a continuation
   pub paths-go : Each (pathsOf patterns) (λ u. (s : ℕ) × (goesOn patterns u s ≡ true))
   unfolding pathsOf
-  paths-go = lengths-go (longest patterns) 0
+  paths-go = lengths-go (longestLength patterns) 0
 
   -- and every one that has is listed
   pub paths-every : (u : List ℕ) (s : ℕ) → goesOn patterns u s ≡ true → Listed (pathsOf patterns) u
@@ -257,5 +258,5 @@ module _ (patterns : List Pattern) (sorted : Sorted patterns) where
       let b = goes-says patterns u s e in
       let l : length u < length (own (b .at)) = omega (arith, begins-length (u ▸ s) (own (b .at)) (b .stands), snoc-length u s) in
       let t = take-begins u (own (b .at)) (begins-init u (s ∷ []) (own (b .at)) (b .stands)) in
-      lengths-listed (longest patterns) 0 (length u) u (omega arith) (omega (arith, l, longest-each (b .at) (b .within)))
+      lengths-listed (longestLength patterns) 0 (length u) u (omega arith) (omega (arith, l, longest-each (b .at) (b .within)))
       (subst (Listed (pathsAt (length u) [] patterns)) t (at-listed (length u) (b .at) (b .within) l))

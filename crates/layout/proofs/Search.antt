@@ -7,22 +7,22 @@ use native.Mathlib.Decide.{decLt}
 use native.Mathlib.Omega.{arith}
 use borrow.Author.Tests.{ne-eqb, not-true}
 use lib.Dec.{ltb}
-use Rattle.base.specs.Limits.{symbols}
+use Rattle.base.specs.Limits.{symbolLimit}
 use Rattle.base.proofs.Lists.{never, both}
 use Rattle.liang.specs.Patterns.{Pattern}
 use Rattle.base.proofs.All.{each-all}
-use Rattle.fit.specs.Cells.{smallest}
-use Rattle.fitted.proofs.Search.{all-at, Smallest, smallest-found, wanted}
+use Rattle.base.specs.Tests.{smallest}
+use Rattle.fit_trie.proofs.Search.{all-at, Smallest, smallest-found, wanted}
 use Rattle.layout.specs.Bases.{Based, goesOn, hasBase, usedBy, usesCell, fitsAt, reach, leastBase}
 use Rattle.layout.proofs.Nodes.{Symbolic}
 
 -- a base that fits is had by no path, and its needed cells are free
 pub fits-says : (patterns : List Pattern) (placed : List Based) (u : List ℕ) (b : ℕ) → fitsAt patterns placed u b ≡ true
-    → (hasBase b placed ≡ false) × ((s : ℕ) → 1 ≤ s → s ≤ symbols → goesOn patterns u s ≡ true → usesCell patterns (b + s) placed ≡ false)
+    → (hasBase b placed ≡ false) × ((s : ℕ) → 1 ≤ s → s ≤ symbolLimit → goesOn patterns u s ≡ true → usesCell patterns (b + s) placed ≡ false)
 unfolding fitsAt
 fits-says patterns placed u b e =
     let p = both (not (hasBase b placed)) _ e in
-    (not-true (hasBase b placed) (p .0), λ s h k g. not-true (usesCell patterns (b + s) placed) (wanted (goesOn patterns u s) _ (all-at _ symbols 1 s (p .1) h (omega arith)) g))
+    (not-true (hasBase b placed) (p .0), λ s h k g. not-true (usesCell patterns (b + s) placed) (wanted (goesOn patterns u s) _ (all-at _ symbolLimit 1 s (p .1) h (omega arith)) g))
 
 module _ (patterns : List Pattern) (low : Symbolic patterns) where
   -- past their reach no path has a base or uses a cell
@@ -31,7 +31,7 @@ module _ (patterns : List Pattern) (low : Symbolic patterns) where
   none-has [] b h = refl
   none-has (x ∷ xs) b h = rw (ne-eqb (x .base) b (λ e. omega arith)) (none-has xs b (omega arith))
 
-  none-used : (x : Based) (n : ℕ) → suc (x .base + symbols) ≤ n → usedBy patterns n x ≡ false
+  none-used : (x : Based) (n : ℕ) → suc (x .base + symbolLimit) ≤ n → usedBy patterns n x ≡ false
   unfolding usedBy
   none-used x n h = go (goesOn patterns (x .path) (n - x .base)) refl (ltb (x .base) n)
     where
@@ -47,7 +47,7 @@ module _ (patterns : List Pattern) (low : Symbolic patterns) where
 
   past-fits : (placed : List Based) (u : List ℕ) (b : ℕ) → reach placed ≤ b → fitsAt patterns placed u b ≡ true
   unfolding fitsAt
-  past-fits placed u b h = rw (none-has placed b h) (each-all _ 1 symbols (λ s k l. rw (none-uses placed (b + s) (omega arith)) (go (goesOn patterns u s))))
+  past-fits placed u b h = rw (none-has placed b h) (each-all _ 1 symbolLimit (λ s k l. rw (none-uses placed (b + s) (omega arith)) (go (goesOn patterns u s))))
     where
       go : (z : Bool) → (not z || true) ≡ true
       go true = refl

@@ -5,15 +5,16 @@ use mathlib.Core.Path.{_≡_, refl, sym, _∙_, ap, subst}
 use native.Mathlib.Omega.{arith}
 use lib.ListN.{length, getD, take, drop, take-append-drop, length-drop}
 use lib.Seq.{getD-take, getD-drop, drop-drop, length-take-le}
-use Rattle.base.specs.Limits.{cells}
+use Rattle.base.specs.Limits.{cellLimit}
 use Rattle.liang.specs.Patterns.{Pattern}
-use Rattle.table.specs.Table.{cellSize, entrySize}
+use Rattle.table.specs.Table.{cellSize, entrySize, cellRoom}
 use Rattle.fit.specs.Table.{putKinds, bytesOf}
 use Rattle.patterns.proofs.Strings.{length-none}
-use Rattle.fitted.proofs.Finished.{cut-length, cut-at, cut-kind}
+use Rattle.fit_trie.proofs.Finished.{cut-length, cut-at, cut-kind}
 use Rattle.layout.specs.Bases.{Based, basesOf, cellsNeeded}
 use Rattle.layout.specs.Entries.{Entry, Entering, entryList, entriesNeeded}
-use Rattle.layout.specs.Table.{twoBytes, headBytes, cellBytes, entryBytes, cellAmong, cellsFrom, allEntries, layoutTable}
+use Rattle.table.specs.Records.{twoBytes, headBytes, cellBytes, entryBytes}
+use Rattle.layout.specs.Table.{entryRecord, cellAmong, numberedCells, allEntries, layoutTable}
 use Rattle.layout.proofs.Entries.{noEntry, Stores}
 use Rattle.layout.proofs.Low.{Low, halves}
 use Rattle.layout.proofs.Cells.{Reads}
@@ -24,8 +25,8 @@ further size a b l e = ap (take size) (drop-drop a size l) ∙ ap (λ (i : ℕ).
 
 -- bytes that are cells one by one
 cells-written : (patterns : List Pattern) (bases : List Based) (c k : ℕ) (l : List ℕ) → length l ≡ cellSize * c
-    → ((n : ℕ) → n < c → take cellSize (drop (cellSize * n) l) ≡ cellAmong patterns bases (k + n) bases) → l ≡ cellsFrom patterns bases k c
-unfolding cellsFrom
+    → ((n : ℕ) → n < c → take cellSize (drop (cellSize * n) l) ≡ cellAmong patterns bases (k + n) bases) → l ≡ numberedCells patterns bases k c
+unfolding numberedCells
 cells-written patterns bases zero k l h f = length-none l (omega (arith, h))
 cells-written patterns bases (suc c) k l h f =
     let z : k + 0 ≡ k = omega arith in
@@ -37,11 +38,11 @@ cells-written patterns bases (suc c) k l h f =
 
 -- bytes that are entries one by one
 entries-written : (xs : List Entry) (l : List ℕ) → length l ≡ entrySize * length xs
-    → ((n : ℕ) → n < length xs → take entrySize (drop (entrySize * n) l) ≡ entryBytes (getD xs n noEntry)) → l ≡ allEntries xs
+    → ((n : ℕ) → n < length xs → take entrySize (drop (entrySize * n) l) ≡ entryRecord (getD xs n noEntry)) → l ≡ allEntries xs
 unfolding allEntries
 entries-written [] l h f = length-none l (omega (arith, h))
 entries-written (x ∷ xs) l h f =
-    let here : take entrySize l ≡ entryBytes x = f 0 (omega arith) in
+    let here : take entrySize l ≡ entryRecord x = f 0 (omega arith) in
     let rest = entries-written xs (drop entrySize l) (length-drop entrySize l ∙ omega (arith, h))
     (λ n i. further entrySize (entrySize * n) (entrySize * suc n) l (omega arith) ∙ f (suc n) (omega arith)) in
     sym (take-append-drop entrySize l) ∙ rw (here, rest)
@@ -65,7 +66,7 @@ five (a ∷ b ∷ c ∷ d ∷ []) h = absurd (omega arith)
 five (a ∷ b ∷ c ∷ d ∷ e ∷ l) h = refl
 
 -- the cells cut off behind the last used one
-module _ (bytes : List ℕ) (c : ℕ) (size : length bytes ≡ cellSize * cells) (few : c ≤ cells) (low : Low bytes) where
+module _ (bytes : List ℕ) (c : ℕ) (size : length bytes ≡ cellRoom) (few : c ≤ cellLimit) (low : Low bytes) where
   abbrev cut : List ℕ
   cut = take (cellSize * c) (putKinds c bytes)
 
@@ -95,7 +96,7 @@ module _ (bytes : List ℕ) (c : ℕ) (size : length bytes ≡ cellSize * cells)
       output : (getD bytes (cellSize * n + 4) 0 ≡ r .output / 256) × (getD bytes (cellSize * n + 4 + 1) 0 ≡ r .output % 256)
       output = let e : cellSize * n + 5 ≡ cellSize * n + 4 + 1 = omega arith in halves bytes (cellSize * n + 4) (r .output) (r .outputRead) (subst (λ (i : ℕ). getD bytes i 0 < 256) e (low .output n))
 
-  pub cells-cut : (patterns : List Pattern) (bases : List Based) → ((n : ℕ) → Reads bytes n (cellAmong patterns bases n bases)) → cut ≡ cellsFrom patterns bases 0 c
+  pub cells-cut : (patterns : List Pattern) (bases : List Based) → ((n : ℕ) → Reads bytes n (cellAmong patterns bases n bases)) → cut ≡ numberedCells patterns bases 0 c
   cells-cut patterns bases reads =
       cells-written patterns bases c 0 cut (cut-length bytes c size few)
       (λ n h. let e : n ≡ 0 + n = omega arith in cell-block n h (cellAmong patterns bases n bases) (reads n) ∙ ap (λ (i : ℕ). cellAmong patterns bases i bases) e)
@@ -108,7 +109,7 @@ module _ (so : Entering) (bytes : List ℕ) (count last : ℕ) (stores : Stores 
   part-length : length part ≡ entrySize * count
   part-length = length-take-le (entrySize * count) bytes (omega (arith, stores .size, stores .few))
 
-  entry-block : (k : ℕ) → k < count → take entrySize (drop (entrySize * k) part) ≡ entryBytes (getD (so .made) k noEntry)
+  entry-block : (k : ℕ) → k < count → take entrySize (drop (entrySize * k) part) ≡ entryRecord (getD (so .made) k noEntry)
   unfolding entryBytes twoBytes
   entry-block k h =
       let s = stores .each k h in
@@ -126,7 +127,7 @@ module _ (so : Entering) (bytes : List ℕ) (count last : ℕ) (stores : Stores 
 
 -- The table with these cells and entries is the layout's.
 pub table-written : (patterns : List Pattern) (c e : ℕ) (bytes made : List ℕ) → c ≡ cellsNeeded patterns → e ≡ entriesNeeded patterns
-    → take (cellSize * c) (putKinds c bytes) ≡ cellsFrom patterns (basesOf patterns) 0 c → take (entrySize * e) made ≡ allEntries (entryList patterns)
+    → take (cellSize * c) (putKinds c bytes) ≡ numberedCells patterns (basesOf patterns) 0 c → take (entrySize * e) made ≡ allEntries (entryList patterns)
     → bytesOf c bytes made e ≡ layoutTable patterns
 unfolding bytesOf layoutTable headBytes twoBytes
 table-written patterns c e bytes made p q f g = rw (f, g, ← p, ← q)

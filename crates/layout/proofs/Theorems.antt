@@ -9,7 +9,8 @@ use native.Mathlib.Omega.{arith}
 use borrow.Author.Tests.{lt-ltb, ltb-true}
 use lib.Dec.{ltb}
 use lib.ListN.{length, getD, take}
-use Rattle.base.specs.Limits.{levelLimit, cells, entries}
+use Rattle.base.specs.Limits.{levelLimit, cellLimit, entryLimit}
+use Rattle.base.proofs.Lists.{clash}
 use Rattle.liang.specs.Patterns.{Pattern}
 use Rattle.liang.specs.Levels.{begins}
 use Rattle.patterns.specs.Strings.{nth, Shaped, Sorted}
@@ -88,32 +89,32 @@ module _ (patterns : List Pattern) (sorted : Sorted patterns) (shaped : (i : ℕ
 module _ (patterns : List Pattern) (sorted : Sorted patterns) (shaped : (i : ℕ) → i < length patterns → Shaped (nth patterns i))
     (low : (i : ℕ) → i < length patterns → (gap : ℕ) → getD (nth patterns i .levels) gap 0 ≤ levelLimit) where
   -- The packer's first fit is this layout written out, and ground 11, "first fit needs C over 8,192 or E over 2,048".
-  pub first-fit-is-layout : firstFit patterns ≡ cond (ltb cells (cellsNeeded patterns) || ltb entries (entriesNeeded patterns)) NoRoom (Packed (layoutTable patterns))
+  pub first-fit-is-layout : firstFit patterns ≡ cond (ltb cellLimit (cellsNeeded patterns) || ltb entryLimit (entriesNeeded patterns)) NoRoom (Packed (layoutTable patterns))
   first-fit-is-layout = fit-is-layout patterns sorted shaped low
 
   -- There is no room exactly where the layout, which knows no limits, passes one.
-  pub no-room-exactly : (firstFit patterns ≡ NoRoom) ↔ ((cells < cellsNeeded patterns) ⊎ (entries < entriesNeeded patterns))
+  pub no-room-exactly : (firstFit patterns ≡ NoRoom) ↔ ((cellLimit < cellsNeeded patterns) ⊎ (entryLimit < entriesNeeded patterns))
   no-room-exactly = (
-    λ e. over (ltb cells (cellsNeeded patterns)) refl (ltb entries (entriesNeeded patterns)) refl (sym first-fit-is-layout ∙ e),
+    λ e. over (ltb cellLimit (cellsNeeded patterns)) refl (ltb entryLimit (entriesNeeded patterns)) refl (sym first-fit-is-layout ∙ e),
     λ h. first-fit-is-layout ∙ none-fits h,
   )
     where
-      over : (a : Bool) → ltb cells (cellsNeeded patterns) ≡ a → (b : Bool) → ltb entries (entriesNeeded patterns) ≡ b → fitOf patterns a b ≡ NoRoom
-          → (cells < cellsNeeded patterns) ⊎ (entries < entriesNeeded patterns)
-      over true p b q e = inl (ltb-true cells (cellsNeeded patterns) p)
-      over false p true q e = inr (ltb-true entries (entriesNeeded patterns) q)
-      over false p false q e = let w : _≡_ {A = ℕ} 0 1 = cc in absurd (omega arith)
+      over : (a : Bool) → ltb cellLimit (cellsNeeded patterns) ≡ a → (b : Bool) → ltb entryLimit (entriesNeeded patterns) ≡ b → fitOf patterns a b ≡ NoRoom
+          → (cellLimit < cellsNeeded patterns) ⊎ (entryLimit < entriesNeeded patterns)
+      over true p b q e = inl (ltb-true cellLimit (cellsNeeded patterns) p)
+      over false p true q e = inr (ltb-true entryLimit (entriesNeeded patterns) q)
+      over false p false q e = clash cc
 
-      none-fits : (cells < cellsNeeded patterns) ⊎ (entries < entriesNeeded patterns)
-          → fitOf patterns (ltb cells (cellsNeeded patterns)) (ltb entries (entriesNeeded patterns)) ≡ NoRoom
-      none-fits (inl h) = rw (lt-ltb cells (cellsNeeded patterns) h)
-      none-fits (inr h) = ap (fitOf patterns (ltb cells (cellsNeeded patterns))) (lt-ltb entries (entriesNeeded patterns) h) ∙ over-any patterns (ltb cells (cellsNeeded patterns))
+      none-fits : (cellLimit < cellsNeeded patterns) ⊎ (entryLimit < entriesNeeded patterns)
+          → fitOf patterns (ltb cellLimit (cellsNeeded patterns)) (ltb entryLimit (entriesNeeded patterns)) ≡ NoRoom
+      none-fits (inl h) = rw (lt-ltb cellLimit (cellsNeeded patterns) h)
+      none-fits (inr h) = ap (fitOf patterns (ltb cellLimit (cellsNeeded patterns))) (lt-ltb entryLimit (entriesNeeded patterns) h) ∙ over-any patterns (ltb cellLimit (cellsNeeded patterns))
 
   -- A table that is packed is the layout's in every byte.
   pub packed-is-layout : (table : List ℕ) → firstFit patterns ≡ Packed table → table ≡ layoutTable patterns
-  packed-is-layout table e = go (ltb cells (cellsNeeded patterns)) (ltb entries (entriesNeeded patterns)) (sym e ∙ first-fit-is-layout)
+  packed-is-layout table e = go (ltb cellLimit (cellsNeeded patterns)) (ltb entryLimit (entriesNeeded patterns)) (sym e ∙ first-fit-is-layout)
     where
       go : (a b : Bool) → Packed table ≡ fitOf patterns a b → table ≡ layoutTable patterns
-      go true b q = let w : _≡_ {A = ℕ} 0 1 = cc in absurd (omega arith)
-      go false true q = let w : _≡_ {A = ℕ} 0 1 = cc in absurd (omega arith)
+      go true b q = clash cc
+      go false true q = clash cc
       go false false q = cc

@@ -5,12 +5,13 @@ use mathlib.Core.Bool.{Bool, false, cond, not, _&&_, _||_}
 use mathlib.Core.List.{List, [], _∷_, _++_}
 use lib.Dec.{ltb, eqb}
 use lib.ListN.{length, take}
-use Rattle.base.specs.Limits.{symbols}
+use Rattle.base.specs.Limits.{symbolLimit}
 use Rattle.lines.specs.Lines.{isNil}
 use Rattle.liang.specs.Patterns.{Pattern}
+use Rattle.table.specs.Table.{rootBase}
 use Rattle.liang.specs.Levels.{begins}
-use Rattle.base.specs.Tests.{allFrom}
-use Rattle.fit.specs.Cells.{smallest, opens}
+use Rattle.base.specs.Tests.{allFrom, smallest}
+use Rattle.patterns.specs.Next.{opens}
 
 -- A path that goes on, with its base.
 pub record Based : Type 0 where
@@ -38,12 +39,12 @@ usesCell patterns n (x ∷ placed) = usedBy patterns n x || usesCell patterns n 
 
 -- A base "which no path has and whose needed cells are all free".
 unfoldable pub fitsAt : List Pattern → List Based → List ℕ → ℕ → Bool
-fitsAt patterns placed u b = not (hasBase b placed) && allFrom (λ s. not (goesOn patterns u s) || not (usesCell patterns (b + s) placed)) 1 symbols
+fitsAt patterns placed u b = not (hasBase b placed) && allFrom (λ s. not (goesOn patterns u s) || not (usesCell patterns (b + s) placed)) 1 symbolLimit
 
 -- From this number on no base is had and no cell is used: that many numbers are enough to search, for the one behind them fits.
 unfoldable pub reach : List Based → ℕ
 reach [] = 0
-reach (x ∷ placed) = max (suc (x .base + symbols)) (reach placed)
+reach (x ∷ placed) = max (suc (x .base + symbolLimit)) (reach placed)
 
 -- "the smallest base from 1 up" that fits.
 unfoldable pub leastBase : List Pattern → List Based → List ℕ → ℕ
@@ -53,7 +54,7 @@ leastBase patterns placed u = smallest (fitsAt patterns placed u) 1 (reach place
 unfoldable pub nextBase : List Pattern → List Based → List ℕ → ℕ
 nextBase patterns placed u =
     let found = leastBase patterns placed u in
-    cond (isNil u) 0 found
+    cond (isNil u) rootBase found
 
 -- "Paths by length, then symbol order": those of m symbols behind which a pattern goes on, as the list has them. It ascends, so
 -- that they do too; and where the pattern above goes on behind the same symbols, they stand there already.
@@ -69,13 +70,13 @@ pathsFrom m zero patterns = []
 pathsFrom m (suc n) patterns = pathsAt m [] patterns ++ pathsFrom (suc m) n patterns
 
 -- The length of the longest pattern: a path that goes on is shorter.
-unfoldable pub longest : List Pattern → ℕ
-longest [] = 0
-longest (p ∷ rest) = max (length (p .symbols)) (longest rest)
+unfoldable pub longestLength : List Pattern → ℕ
+longestLength [] = 0
+longestLength (p ∷ rest) = max (length (p .symbols)) (longestLength rest)
 
 -- All paths with continuations.
 unfoldable pub pathsOf : List Pattern → List (List ℕ)
-pathsOf patterns = pathsFrom 0 (longest patterns) patterns
+pathsOf patterns = pathsFrom 0 (longestLength patterns) patterns
 
 -- The paths get their bases in turn, each among those placed before it.
 unfoldable pub placeAll : List Pattern → List (List ℕ) → List Based → List Based
@@ -94,7 +95,7 @@ topFrom patterns x s (suc n) = max (cond (goesOn patterns (x .path) s) (suc (x .
 -- Over all paths.
 unfoldable pub topOf : List Pattern → List Based → ℕ
 topOf patterns [] = 1
-topOf patterns (x ∷ placed) = max (topFrom patterns x 1 symbols) (topOf patterns placed)
+topOf patterns (x ∷ placed) = max (topFrom patterns x 1 symbolLimit) (topOf patterns placed)
 
 -- C, however high it is.
 unfoldable pub cellsNeeded : List Pattern → ℕ

@@ -4,7 +4,7 @@ use mathlib.Core.Bool.{Bool, cond, _&&_}
 use mathlib.Core.List.{List, [], _∷_, _++_}
 use lib.Dec.{eqb}
 use lib.ListN.{length, getD}
-use Rattle.base.specs.Tests.{same}
+use Rattle.base.specs.Tests.{sameList}
 use Rattle.liang.specs.Patterns.{Pattern}
 
 -- "distance, level, next"
@@ -69,7 +69,7 @@ unfoldable pub outputFrom : List Pattern → Entering → List ℕ → ℕ
 outputFrom [] soFar u = 0
 outputFrom (p ∷ rest) soFar u =
     let later = outputFrom rest (addPattern p soFar) u in
-    cond (same (p .symbols) u) (addPattern p soFar .last) later
+    cond (sameList (p .symbols) u) (addPattern p soFar .last) later
 
 unfoldable pub outputFor : List Pattern → List ℕ → ℕ
 outputFor patterns u = outputFrom patterns noEntries u

@@ -10,8 +10,8 @@ use lib.Dec.{leb, ltb, eqb}
 use lib.ListN.{length, getD, take, drop, length-drop, drop-of-length-le}
 use lib.Seq.{drop-drop, length-take-le}
 use Rattle.base.specs.Limits.{wordLimit, patternLimit}
-use Rattle.base.proofs.Lists.{cons-at}
-use Rattle.words.specs.Symbols.{feed, hyphen, dot, small, digit, symbolOf, symbolsOf}
+use Rattle.base.proofs.Lists.{clash, cons-at}
+use Rattle.words.specs.Symbols.{lineFeed, hyphen, dot, small, digit, symbolOf, symbolsOf}
 use Rattle.words.proofs.Laws.{range-low, small-low, small-not-digit, small-symbol, dot-symbol, other-symbol, digit-not-dot, symbols-skip, symbols-keep}
 use Rattle.lines.specs.Lines.{glue, cut, lineLength, firstLine, isNil, startsWith, anyOf, patternForm, goodPattern, exceptionForm, goodException}
 use Rattle.lines.specs.Order.{before}
@@ -21,35 +21,35 @@ use Rattle.lines.specs.declared.End.the-variants.{At, Bad}
 
 -- where a line ends
 module _ (at : ℕ) (w : List ℕ) (i : ℕ) where
-  pub end-here : at + lineLength (drop at w) ≡ i + lineLength (drop i w) → i < length w → getD w i 0 ≡ feed → i + 1 ≡ at + lineLength (drop at w)
+  pub end-here : at + lineLength (drop at w) ≡ i + lineLength (drop i w) → i < length w → getD w i 0 ≡ lineFeed → i + 1 ≡ at + lineLength (drop at w)
   unfolding lineLength
-  end-here e h f = sym (e ∙ rw (cons-at w i h, eq-eqb (getD w i 0) feed f))
+  end-here e h f = sym (e ∙ rw (cons-at w i h, eq-eqb (getD w i 0) lineFeed f))
 
-  pub end-on : at + lineLength (drop at w) ≡ i + lineLength (drop i w) → i < length w → (getD w i 0 ≡ feed → ⊥) → at + lineLength (drop at w) ≡ i + 1 + lineLength (drop (i + 1) w)
+  pub end-on : at + lineLength (drop at w) ≡ i + lineLength (drop i w) → i < length w → (getD w i 0 ≡ lineFeed → ⊥) → at + lineLength (drop at w) ≡ i + 1 + lineLength (drop (i + 1) w)
   unfolding lineLength
-  end-on e h f = e ∙ rw (cons-at w i h, ne-eqb (getD w i 0) feed f) (omega arith)
+  end-on e h f = e ∙ rw (cons-at w i h, ne-eqb (getD w i 0) lineFeed f) (omega arith)
 
   pub end-out : at + lineLength (drop at w) ≡ i + lineLength (drop i w) → length w ≤ i → i ≡ at + lineLength (drop at w)
   unfolding lineLength
   end-out e h = sym (e ∙ rw (drop-of-length-le w h) (add-zero i))
 
-pub dot-out : (w : List ℕ) (i : ℕ) → length w ≤ i → false ≡ startsWith feed (drop i w)
+pub dot-out : (w : List ℕ) (i : ℕ) → length w ≤ i → false ≡ startsWith lineFeed (drop i w)
 unfolding startsWith
 dot-out w i h = rw (drop-of-length-le w h)
 
-pub dot-in : (w : List ℕ) (i : ℕ) → i < length w → eqb (getD w i 0) feed ≡ startsWith feed (drop i w)
+pub dot-in : (w : List ℕ) (i : ℕ) → i < length w → eqb (getD w i 0) lineFeed ≡ startsWith lineFeed (drop i w)
 unfolding startsWith
 dot-in w i h = rw (cons-at w i h)
 
 -- a text's first line, byte by byte
 module _ (w : List ℕ) (i : ℕ) (h : i < length w) where
-  first-on : (getD w i 0 ≡ feed → ⊥) → firstLine (drop i w) ≡ getD w i 0 ∷ firstLine (drop (i + 1) w)
+  first-on : (getD w i 0 ≡ lineFeed → ⊥) → firstLine (drop i w) ≡ getD w i 0 ∷ firstLine (drop (i + 1) w)
   unfolding firstLine
-  first-on f = rw (cons-at w i h, ne-eqb (getD w i 0) feed f)
+  first-on f = rw (cons-at w i h, ne-eqb (getD w i 0) lineFeed f)
 
-  first-feed : getD w i 0 ≡ feed → firstLine (drop i w) ≡ getD w i 0 ∷ []
+  first-feed : getD w i 0 ≡ lineFeed → firstLine (drop i w) ≡ getD w i 0 ∷ []
   unfolding firstLine
-  first-feed f = rw (cons-at w i h, eq-eqb (getD w i 0) feed f)
+  first-feed f = rw (cons-at w i h, eq-eqb (getD w i 0) lineFeed f)
 
 first-out : (w : List ℕ) (i : ℕ) → length w ≤ i → firstLine (drop i w) ≡ []
 unfolding firstLine
@@ -58,7 +58,7 @@ first-out w i h = rw (drop-of-length-le w h)
 starts-first : (x : ℕ) (t : List ℕ) → startsWith x (firstLine t) ≡ startsWith x t
 unfolding startsWith firstLine
 starts-first x [] = refl
-starts-first x (b ∷ t) = go (eqb b feed)
+starts-first x (b ∷ t) = go (eqb b lineFeed)
   where
     go : (z : Bool) → startsWith x (cond z (b ∷ []) (b ∷ firstLine t)) ≡ eqb b x
     go true = refl
@@ -67,7 +67,7 @@ starts-first x (b ∷ t) = go (eqb b feed)
 first-taken : (t : List ℕ) → firstLine t ≡ take (lineLength t) t
 unfolding firstLine lineLength
 first-taken [] = refl
-first-taken (b ∷ t) = go (eqb b feed) (first-taken t)
+first-taken (b ∷ t) = go (eqb b lineFeed) (first-taken t)
   where
     go : (z : Bool) → firstLine t ≡ take (lineLength t) t → cond z (b ∷ []) (b ∷ firstLine t) ≡ take (cond z 1 (suc (lineLength t))) (b ∷ t)
     go true e = refl
@@ -78,10 +78,10 @@ pub first-line : (w : List ℕ) (at e : ℕ) → e ≡ at + lineLength (drop at 
 first-line w at e q = let n : e - at ≡ lineLength (drop at w) = omega arith in rw n (first-taken (drop at w))
 
 -- letters and digits are no line feed
-pub small-not-feed : (b : ℕ) → small b ≡ true → b ≡ feed → ⊥
+pub small-not-feed : (b : ℕ) → small b ≡ true → b ≡ lineFeed → ⊥
 small-not-feed b e f = omega (arith, small-low b e)
 
-pub digit-not-feed : (b : ℕ) → digit b ≡ true → b ≡ feed → ⊥
+pub digit-not-feed : (b : ℕ) → digit b ≡ true → b ≡ lineFeed → ⊥
 unfolding digit
 digit-not-feed b e f = omega (arith, range-low 49 57 b e)
 
@@ -93,12 +93,12 @@ pub end-good : {good : Bool} {i e : ℕ} → good ≡ true → i ≡ e → At i 
 end-good g p = rw (g, p)
 
 pub ends-bad : (good : Bool) (e : ℕ) {r : End} → r ≡ endIf good e → r ≡ Bad → good ≡ false
-ends-bad true e p q = let z : _≡_ {A = ℕ} 0 1 = cc in absurd (omega arith)
+ends-bad true e p q = clash cc
 ends-bad false e p q = refl
 
 pub ends-good : (good : Bool) (e : ℕ) {r : End} {i : ℕ} → r ≡ endIf good e → r ≡ At i → (good ≡ true) × (i ≡ e)
 ends-good true e p q = (refl, cc)
-ends-good false e p q = let z : _≡_ {A = ℕ} 0 1 = cc in absurd (omega arith)
+ends-good false e p q = clash cc
 
 -- what is left to show of a pattern line after some of its bytes: letters and digits seen, and how many symbols
 unfoldable pub patternRest : Bool → Bool → Bool → Bool → ℕ → List ℕ → Bool
@@ -129,7 +129,7 @@ module _ (w : List ℕ) (i : ℕ) (h : i < length w) (o a ls ds : Bool) (n : ℕ
     pattern-digits d z = rw (first-on w i h (digit-not-feed (getD w i 0) d), e, d, z)
 
     module _ (d : digit (getD w i 0) ≡ false) where
-      pub pattern-dot : getD w i 0 ≡ dot → (o || startsWith feed (drop (i + 1) w)) ≡ true
+      pub pattern-dot : getD w i 0 ≡ dot → (o || startsWith lineFeed (drop (i + 1) w)) ≡ true
           → patternRest o a ls ds n (firstLine (drop i w)) ≡ patternRest false false ls ds (n + 1) (firstLine (drop (i + 1) w))
       unfolding patternRest patternForm anyOf
       pattern-dot z s =
@@ -139,22 +139,22 @@ module _ (w : List ℕ) (i : ℕ) (h : i < length w) (o a ls ds : Bool) (n : ℕ
             e,
             d,
             eq-eqb (getD w i 0) dot z,
-            starts-first feed (drop (i + 1) w),
+            starts-first lineFeed (drop (i + 1) w),
             s,
             suc-right n,
           )
 
-      pub pattern-no-dot : getD w i 0 ≡ dot → (o || startsWith feed (drop (i + 1) w)) ≡ false → patternRest o a ls ds n (firstLine (drop i w)) ≡ false
+      pub pattern-no-dot : getD w i 0 ≡ dot → (o || startsWith lineFeed (drop (i + 1) w)) ≡ false → patternRest o a ls ds n (firstLine (drop i w)) ≡ false
       unfolding patternRest patternForm
-      pattern-no-dot z s = rw (first-on w i h (λ f. omega (arith, f, z)), e, d, eq-eqb (getD w i 0) dot z, starts-first feed (drop (i + 1) w), s)
+      pattern-no-dot z s = rw (first-on w i h (λ f. omega (arith, f, z)), e, d, eq-eqb (getD w i 0) dot z, starts-first lineFeed (drop (i + 1) w), s)
 
       module _ (z : getD w i 0 ≡ dot → ⊥) where
-        pub pattern-other : (getD w i 0 ≡ feed → ⊥) → patternRest o a ls ds n (firstLine (drop i w)) ≡ false
+        pub pattern-other : (getD w i 0 ≡ lineFeed → ⊥) → patternRest o a ls ds n (firstLine (drop i w)) ≡ false
         unfolding patternRest patternForm
-        pattern-other f = rw (first-on w i h f, e, d, ne-eqb (getD w i 0) dot z, ne-eqb (getD w i 0) feed f)
+        pattern-other f = rw (first-on w i h f, e, d, ne-eqb (getD w i 0) dot z, ne-eqb (getD w i 0) lineFeed f)
 
         -- the line feed ends the line: what was seen decides
-        module _ (f : getD w i 0 ≡ feed) where
+        module _ (f : getD w i 0 ≡ lineFeed) where
           pattern-feed : patternRest o a ls ds n (firstLine (drop i w)) ≡ ((ls || false) && ((ds || false) && leb n patternLimit))
           unfolding patternRest patternForm anyOf isNil symbolsOf
           pattern-feed =
@@ -164,7 +164,7 @@ module _ (w : List ℕ) (i : ℕ) (h : i < length w) (o a ls ds : Bool) (n : ℕ
                 e,
                 d,
                 ne-eqb (getD w i 0) dot z,
-                eq-eqb (getD w i 0) feed f,
+                eq-eqb (getD w i 0) lineFeed f,
                 add-zero n,
               )
 
@@ -201,7 +201,7 @@ module _ (w : List ℕ) (i : ℕ) (h : i < length w) (a : Bool) (n : ℕ) where
   module _ (e : small (getD w i 0) ≡ false) where
     exception-lone : a ≡ false → exceptionRest a n (firstLine (drop i w)) ≡ false
     unfolding exceptionRest exceptionForm firstLine
-    exception-lone z = rw (cons-at w i h) (go (eqb (getD w i 0) feed))
+    exception-lone z = rw (cons-at w i h) (go (eqb (getD w i 0) lineFeed))
       where
         go : (f : Bool) → exceptionRest a n (cond f (getD w i 0 ∷ []) (getD w i 0 ∷ firstLine (drop (i + 1) w))) ≡ false
         go true = rw (e, z)
@@ -220,11 +220,11 @@ module _ (w : List ℕ) (i : ℕ) (h : i < length w) (a : Bool) (n : ℕ) where
           )
 
       module _ (y : getD w i 0 ≡ hyphen → ⊥) where
-        exception-other : (getD w i 0 ≡ feed → ⊥) → exceptionRest a n (firstLine (drop i w)) ≡ false
+        exception-other : (getD w i 0 ≡ lineFeed → ⊥) → exceptionRest a n (firstLine (drop i w)) ≡ false
         unfolding exceptionRest exceptionForm
-        exception-other f = rw (first-on w i h f, e, z, ne-eqb (getD w i 0) hyphen y, ne-eqb (getD w i 0) feed f)
+        exception-other f = rw (first-on w i h f, e, z, ne-eqb (getD w i 0) hyphen y, ne-eqb (getD w i 0) lineFeed f)
 
-        exception-feed : getD w i 0 ≡ feed → exceptionRest a n (firstLine (drop i w)) ≡ leb n wordLimit
+        exception-feed : getD w i 0 ≡ lineFeed → exceptionRest a n (firstLine (drop i w)) ≡ leb n wordLimit
         unfolding exceptionRest exceptionForm isNil symbolsOf
         exception-feed f =
             rw (
@@ -233,14 +233,14 @@ module _ (w : List ℕ) (i : ℕ) (h : i < length w) (a : Bool) (n : ℕ) where
               e,
               z,
               ne-eqb (getD w i 0) hyphen y,
-              eq-eqb (getD w i 0) feed f,
+              eq-eqb (getD w i 0) lineFeed f,
               add-zero n,
             )
 
-        exception-long : getD w i 0 ≡ feed → wordLimit < n → exceptionRest a n (firstLine (drop i w)) ≡ false
+        exception-long : getD w i 0 ≡ lineFeed → wordLimit < n → exceptionRest a n (firstLine (drop i w)) ≡ false
         exception-long f k = exception-feed f ∙ rw (lt-leb n wordLimit k)
 
-        exception-whole : getD w i 0 ≡ feed → n ≤ wordLimit → exceptionRest a n (firstLine (drop i w)) ≡ true
+        exception-whole : getD w i 0 ≡ lineFeed → n ≤ wordLimit → exceptionRest a n (firstLine (drop i w)) ≡ true
         exception-whole f k = exception-feed f ∙ rw (le-leb n wordLimit k)
 
 exception-end : (w : List ℕ) (i : ℕ) (a : Bool) (n : ℕ) → length w ≤ i → exceptionRest a n (firstLine (drop i w)) ≡ false
@@ -293,13 +293,13 @@ module _ (text : List ℕ) (at run hyphens i : ℕ) (l : Lettered text at run hy
             }
 
         module _ (y : getD text i 0 ≡ hyphen → ⊥) where
-          pub lettered-other : (getD text i 0 ≡ feed → ⊥) → goodException (firstLine (drop at text)) ≡ false
+          pub lettered-other : (getD text i 0 ≡ lineFeed → ⊥) → goodException (firstLine (drop at text)) ≡ false
           lettered-other f = l .same ∙ exception-other text i h (ltb run i) (i - at - hyphens) e after y f
 
-          pub lettered-long : getD text i 0 ≡ feed → wordLimit < i - at - hyphens → goodException (firstLine (drop at text)) ≡ false
+          pub lettered-long : getD text i 0 ≡ lineFeed → wordLimit < i - at - hyphens → goodException (firstLine (drop at text)) ≡ false
           lettered-long f k = l .same ∙ exception-long text i h (ltb run i) (i - at - hyphens) e after y f k
 
-          pub lettered-whole : getD text i 0 ≡ feed → i - at - hyphens ≤ wordLimit → goodException (firstLine (drop at text)) ≡ true
+          pub lettered-whole : getD text i 0 ≡ lineFeed → i - at - hyphens ≤ wordLimit → goodException (firstLine (drop at text)) ≡ true
           lettered-whole f k = l .same ∙ exception-whole text i h (ltb run i) (i - at - hyphens) e after y f k
 
 -- the order of two lines, at the symbols that the code stands at
@@ -372,7 +372,7 @@ module _ (a : List ℕ) (i : ℕ) (b : List ℕ) (j : ℕ) {y : ℕ} (k : j < le
 pub length-le : (l : List ℕ) → lineLength l ≤ length l
 unfolding lineLength
 length-le [] = omega arith
-length-le (b ∷ t) = go (eqb b feed) (length-le t)
+length-le (b ∷ t) = go (eqb b lineFeed) (length-le t)
   where
     go : (z : Bool) → lineLength t ≤ length t → cond z 1 (suc (lineLength t)) ≤ suc (length t)
     go true h = omega arith
@@ -381,7 +381,7 @@ length-le (b ∷ t) = go (eqb b feed) (length-le t)
 pub length-pos : (l : List ℕ) → 0 < length l → 0 < lineLength l
 unfolding lineLength
 length-pos [] h = h
-length-pos (b ∷ t) h = go (eqb b feed)
+length-pos (b ∷ t) h = go (eqb b lineFeed)
   where
     go : (z : Bool) → 0 < cond z 1 (suc (lineLength t))
     go true = omega arith
@@ -390,12 +390,12 @@ length-pos (b ∷ t) h = go (eqb b feed)
 pub cut-first : (l : List ℕ) → 0 < length l → cut l ≡ take (lineLength l) l ∷ cut (drop (lineLength l) l)
 unfolding cut lineLength glue
 cut-first [] h = absurd (omega arith)
-cut-first (b ∷ []) h = go (eqb b feed)
+cut-first (b ∷ []) h = go (eqb b lineFeed)
   where
     go : (z : Bool) → cond z ((b ∷ []) ∷ []) ((b ∷ []) ∷ []) ≡ take (cond z 1 1) (b ∷ []) ∷ cut (drop (cond z 1 1) (b ∷ []))
     go true = refl
     go false = refl
-cut-first (b ∷ c ∷ u) h = go (eqb b feed) (cut-first (c ∷ u) (omega arith))
+cut-first (b ∷ c ∷ u) h = go (eqb b lineFeed) (cut-first (c ∷ u) (omega arith))
   where
     go : (z : Bool) → cut (c ∷ u) ≡ take (lineLength (c ∷ u)) (c ∷ u) ∷ cut (drop (lineLength (c ∷ u)) (c ∷ u))
         → cond z ((b ∷ []) ∷ cut (c ∷ u)) (glue b (cut (c ∷ u)))

@@ -5,7 +5,7 @@ use mathlib.Core.List.{List, [], _∷_}
 use lib.Dec.{leb, eqb}
 use lib.ListN.{length}
 use Rattle.base.specs.Limits.{wordLimit, patternLimit}
-use Rattle.words.specs.Symbols.{feed, hyphen, dot, small, digit, symbolsOf}
+use Rattle.words.specs.Symbols.{lineFeed, hyphen, dot, small, digit, symbolsOf}
 
 -- A byte put in front of a text that is already cut.
 unfoldable pub glue : ℕ → List (List ℕ) → List (List ℕ)
@@ -16,17 +16,17 @@ glue b (l ∷ ls) = (b ∷ l) ∷ ls
 -- line feed, and bytes that no line feed ends are the last line, so that a line's offset is the length of those before it.
 unfoldable pub cut : List ℕ → List (List ℕ)
 cut [] = []
-cut (b ∷ t) = cond (eqb b feed) ((b ∷ []) ∷ cut t) (glue b (cut t))
+cut (b ∷ t) = cond (eqb b lineFeed) ((b ∷ []) ∷ cut t) (glue b (cut t))
 
 -- The length of a text's first line, its line feed included.
 unfoldable pub lineLength : List ℕ → ℕ
 lineLength [] = 0
-lineLength (b ∷ t) = cond (eqb b feed) 1 (suc (lineLength t))
+lineLength (b ∷ t) = cond (eqb b lineFeed) 1 (suc (lineLength t))
 
 -- A text's first line, its line feed included.
 unfoldable pub firstLine : List ℕ → List ℕ
 firstLine [] = []
-firstLine (b ∷ t) = cond (eqb b feed) (b ∷ []) (b ∷ firstLine t)
+firstLine (b ∷ t) = cond (eqb b lineFeed) (b ∷ []) (b ∷ firstLine t)
 
 unfoldable pub isNil : List ℕ → Bool
 isNil [] = true
@@ -51,8 +51,8 @@ patternForm opening afterDigit [] = false
 patternForm opening afterDigit (b ∷ t) =
     cond (small b) (patternForm false false t)
     (cond (digit b) (not afterDigit && patternForm false true t)
-    (cond (eqb b dot) ((opening || startsWith feed t) && patternForm false false t)
-    (eqb b feed && isNil t)))
+    (cond (eqb b dot) ((opening || startsWith lineFeed t) && patternForm false false t)
+    (eqb b lineFeed && isNil t)))
 
 -- Pattern line: "1 to 16 symbols", "at least one small letter and one digit". (One symbol at least: the letter.)
 unfoldable pub goodPattern : List ℕ → Bool
@@ -64,7 +64,7 @@ unfoldable pub exceptionForm : Bool → List ℕ → Bool
 exceptionForm afterLetter [] = false
 exceptionForm afterLetter (b ∷ t) =
     cond (small b) (exceptionForm true t)
-    (afterLetter && cond (eqb b hyphen) (exceptionForm false t) (eqb b feed && isNil t))
+    (afterLetter && cond (eqb b hyphen) (exceptionForm false t) (eqb b lineFeed && isNil t))
 
 -- Exception line: "1 to 63 small letters". (One at least: the line feed stands after a letter.)
 unfoldable pub goodException : List ℕ → Bool

@@ -3,7 +3,7 @@ ghost use mathlib.Core.Path.{_≡_};
 ghost use mathlib.Core.Bool.{_||_};
 ghost use Prim.Native.Nat.{_+_, _≤_};
 ghost use lib.ListN.{length, drop};
-ghost use Rattle.words.specs.Symbols.{symbolsOf, feed};
+ghost use Rattle.words.specs.Symbols.{symbolsOf, lineFeed};
 ghost use Rattle.lines.specs.Lines.{lineLength, firstLine, startsWith, goodPattern, goodException};
 ghost use Rattle.lines.specs.Order.{before};
 ghost use Rattle.lines.specs.Ends.{endIf};
@@ -22,7 +22,7 @@ pub fn line_end(text: &[u8], at: usize) -> usize
     while i < text.len() {
         let b = text[i];
         i += 1;
-        if b == 10 {
+        if b == words::LINE_FEED {
             return i;
         }
     }
@@ -31,7 +31,7 @@ pub fn line_end(text: &[u8], at: usize) -> usize
 
 // May a "." stand here: as the first byte of its line, or with the line feed right after it, at i?
 fn dot_fits(opening: bool, text: &[u8], i: usize) -> bool
-    ensures { λ r. ⌜ r ≡ (opening || startsWith feed (drop i (now (text .entry)))) ⌝ }
+    ensures { λ r. ⌜ r ≡ (opening || startsWith lineFeed (drop i (now (text .entry)))) ⌝ }
 {
     if opening {
         return true;
@@ -39,7 +39,7 @@ fn dot_fits(opening: bool, text: &[u8], i: usize) -> bool
     if text.len() <= i {
         return false;
     }
-    text[i] == 10
+    text[i] == words::LINE_FEED
 }
 
 // The line that begins at a place, judged as a pattern line by itself: its form and its end are found in one pass.
@@ -67,7 +67,7 @@ pub fn pattern_end(text: &[u8], at: usize) -> End
             digits = true;
             after_digit = true;
             opening = false;
-        } else if b == 46 {
+        } else if b == words::DOT {
             if !dot_fits(opening, text, i) {
                 return End::Bad;
             }
@@ -75,7 +75,7 @@ pub fn pattern_end(text: &[u8], at: usize) -> End
             after_digit = false;
             opening = false;
         } else {
-            if b != 10 {
+            if b != words::LINE_FEED {
                 return End::Bad;
             }
             if !letters {
@@ -111,11 +111,11 @@ pub fn exception_end(text: &[u8], at: usize) -> End
             }
             let letters = i - at - hyphens;
             i += 1;
-            if b == 45 {
+            if b == words::HYPHEN {
                 run = i;
                 hyphens += 1;
             } else {
-                if b != 10 {
+                if b != words::LINE_FEED {
                     return End::Bad;
                 }
                 if base::WORD_LIMIT < letters {

@@ -2,14 +2,14 @@
 use Prim.Native.Nat.{ℕ, zero, suc, _+_, _<_}
 use mathlib.Core.Bool.{Bool, true, false, cond, _&&_}
 use mathlib.Core.List.{List, [], _∷_}
-use mathlib.Core.Path.{_≡_, refl, subst}
+use mathlib.Core.Path.{_≡_, refl}
 use native.Mathlib.Decide.{decLt}
 use native.Mathlib.Omega.{arith}
-use native.Mathlib.Nat.{le-of-suc-le-suc}
 use lib.ListN.{length, getD}
 use Rattle.base.specs.Limits.{patternText}
 use Rattle.base.specs.declared.Check.the-variants.{Fine}
 use Rattle.base.proofs.Grounds.{both-fine}
+use Rattle.base.proofs.Lists.{clash}
 use Rattle.words.specs.Symbols.{symbolsOf}
 use Rattle.lines.specs.Lines.{cut}
 use Rattle.lines.specs.Order.{before}
@@ -33,8 +33,8 @@ passed form at above line rest e = go (goodLine form line) refl (before (symbols
     go : (a : Bool) → goodLine form line ≡ a → (b : Bool) → before (symbolsOf above) (symbolsOf line) ≡ b
         → cond (a && b) (firstBad form (at + length line) line rest) (BadAt at) ≡ Good → Passed form at above line rest
     go true p true q h = record { good = p; low = q; onward = h }
-    go true p false q h = let z : _≡_ {A = ℕ} 0 1 = cc in absurd (omega arith)
-    go false p b q h = let z : _≡_ {A = ℕ} 0 1 = cc in absurd (omega arith)
+    go true p false q h = clash cc
+    go false p b q h = clash cc
 
 -- every line ascends from what stands above the first
 all-above : (form : Form) (at : ℕ) (above : List ℕ) (ls : List (List ℕ)) → firstBad form at above ls ≡ Good → (j : ℕ) → j < length ls
@@ -71,7 +71,7 @@ at-most-once form text e i j hi hj q = go (decLt i j) (decLt j i)
 
 no-bad-pattern : (l : Lines) → badPattern l ≡ Fine → l ≡ Good
 no-bad-pattern Good e = refl
-no-bad-pattern (BadAt o) e = let z : _≡_ {A = ℕ} 0 1 = cc in absurd (omega arith)
+no-bad-pattern (BadAt o) e = clash cc
 
 -- A pattern text that is judged fine has no bad line.
 pub patterns-good : (text : List ℕ) → judgePatterns text ≡ Fine → judgeLines Patterns text ≡ Good

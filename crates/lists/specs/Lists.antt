@@ -8,7 +8,6 @@ use Rattle.base.specs.Limits.{patternText, exceptionText, customerList, houseLi
 use Rattle.base.specs.Grounds.{Row, on, onLine, first, refuseIf}
 use Rattle.base.specs.declared.Check.{Check}
 use Rattle.base.specs.declared.Check.the-variants.{Fine, Refused}
-use Rattle.base.specs.declared.Ground.{Ground}
 use Rattle.base.specs.declared.Ground.the-variants.{TextLong, BadPattern, BadException}
 use Rattle.words.specs.Symbols.{symbolsOf}
 use Rattle.lines.specs.Lines.{cut, goodPattern, goodException}

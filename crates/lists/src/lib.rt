@@ -117,9 +117,9 @@ pub fn judge_lists(customer: &[u8], house: &[u8]) -> Check
     if let Check::Refused(g) = size2 {
         return Check::Refused(g);
     }
-    let own = bad_exception(base::CUSTOMER, judge_lines(Form::Exceptions, customer));
+    let own = bad_exception(base::CUSTOMER_LIST, judge_lines(Form::Exceptions, customer));
     if let Check::Refused(g) = own {
         return Check::Refused(g);
     }
-    bad_exception(base::HOUSE, judge_lines(Form::Exceptions, house))
+    bad_exception(base::HOUSE_LIST, judge_lines(Form::Exceptions, house))
 }

@@ -11,26 +11,26 @@ use Rattle.base.specs.Limits.{wordLimit}
 use Rattle.base.specs.declared.Check.{Check}
 use Rattle.base.specs.declared.Check.the-variants.{Fine, Refused}
 use Rattle.base.specs.declared.Ground.{Ground}
-use Rattle.base.proofs.Lists.{cons-at}
-use Rattle.words.specs.Symbols.{feed, lower, symbolOf, symbolsOf}
+use Rattle.base.proofs.Lists.{clash, cons-at}
+use Rattle.words.specs.Symbols.{lineFeed, lower, symbolOf, symbolsOf}
 use Rattle.words.specs.Words.{judgeWord, wordSymbols}
 use Rattle.words.proofs.Laws.{symbols-skip}
 use Rattle.lines.specs.Lines.{cut, glue, lineLength}
 use Rattle.lines.proofs.Laws.{cut-line, line-size, line-starts}
 use Rattle.lists.specs.Lists.{judgeLists}
-use Rattle.base.specs.Tests.{same}
+use Rattle.base.specs.Tests.{sameList}
 use Rattle.lookup.specs.Find.{findLine, find, ownFirst, findEither}
 use Rattle.lookup.specs.Lookup.{judgeLookup, unlessRefused, locate}
-use Rattle.lookup.specs.declared.Found.{Found}
-use Rattle.lookup.specs.declared.Found.the-variants.{At, Nothing}
+use Rattle.lookup.specs.declared.ListLine.{ListLine}
+use Rattle.lookup.specs.declared.ListLine.the-variants.{At, Nothing}
 use Rattle.lookup.specs.declared.Located.{Located}
 use Rattle.lookup.specs.declared.Located.the-variants.{Customer, House, Nowhere}
 
 -- a word against a line, from the letters and bytes that the code stands at
 unfoldable pub sameFrom : List ℕ → ℕ → List ℕ → ℕ → Bool
-sameFrom w i l j = same (wordSymbols (drop i w)) (symbolsOf (drop j l))
+sameFrom w i l j = sameList (wordSymbols (drop i w)) (symbolsOf (drop j l))
 
-pub same-start : (w l : List ℕ) → same (wordSymbols w) (symbolsOf l) ≡ sameFrom w 0 l 0
+pub same-start : (w l : List ℕ) → sameList (wordSymbols w) (symbolsOf l) ≡ sameFrom w 0 l 0
 unfolding sameFrom
 same-start w l = refl
 
@@ -40,26 +40,26 @@ module _ (w : List ℕ) (i : ℕ) (l : List ℕ) (j : ℕ) {y : ℕ} (k : j < le
   same-skip e = rw (cons-at l j k, symbols-skip (getD l j 0) (drop (j + 1) l) (eq-eqb (symbolOf (getD l j 0)) 0 (sym q ∙ e)))
 
   pub same-short : (y ≡ 0 → ⊥) → length w ≤ i → sameFrom w i l j ≡ false
-  unfolding sameFrom same wordSymbols symbolsOf
+  unfolding sameFrom sameList wordSymbols symbolsOf
   same-short e h = rw (drop-of-length-le w h, cons-at l j k, ← q, ne-eqb y 0 e)
 
   module _ (e : y ≡ 0 → ⊥) {b x : ℕ} (h : i < length w) (m : b ≡ lower (getD w i 0)) (p : x ≡ symbolOf b) where
     pub same-differs : (x ≡ y → ⊥) → sameFrom w i l j ≡ false
-    unfolding sameFrom same wordSymbols symbolsOf
+    unfolding sameFrom sameList wordSymbols symbolsOf
     same-differs d = rw (cons-at w i h, cons-at l j k, ← q, ne-eqb y 0 e, ← m, ← p, ne-eqb x y d)
 
     pub same-agrees : x ≡ y → sameFrom w i l j ≡ sameFrom w (i + 1) l (j + 1)
-    unfolding sameFrom same wordSymbols symbolsOf
+    unfolding sameFrom sameList wordSymbols symbolsOf
     same-agrees d = rw (cons-at w i h, cons-at l j k, ← q, ne-eqb y 0 e, ← m, ← p, eq-eqb x y d)
 
 pub same-end : (w : List ℕ) (i : ℕ) (l : List ℕ) (j : ℕ) → i ≤ length w → length l ≤ j → sameFrom w i l j ≡ eqb i (length w)
-unfolding sameFrom same wordSymbols symbolsOf
+unfolding sameFrom sameList wordSymbols symbolsOf
 same-end w i l j h k = rw (drop-of-length-le l k) (go (eqb i (length w)) refl)
   where
-    more : i < length w → same (wordSymbols (drop i w)) [] ≡ false
+    more : i < length w → sameList (wordSymbols (drop i w)) [] ≡ false
     more m = rw (cons-at w i m)
 
-    go : (z : Bool) → eqb i (length w) ≡ z → same (wordSymbols (drop i w)) [] ≡ eqb i (length w)
+    go : (z : Bool) → eqb i (length w) ≡ z → sameList (wordSymbols (drop i w)) [] ≡ eqb i (length w)
     go true e = let s : length w ≤ i = omega (arith, eqb-true i (length w) e) in rw (e, drop-of-length-le w s)
     go false e = more (omega (arith, eqb-false i (length w) e)) ∙ sym e
 
@@ -73,13 +73,13 @@ unfolding findLine cut
 find-end key t at h = rw (drop-of-length-le t h)
 
 module _ (key t : List ℕ) (at e : ℕ) (h : at < length t) (q : e ≡ at + lineLength (drop at t)) where
-  pub find-here : same key (symbolsOf (take (e - at) (drop at t))) ≡ true → findLine key at (cut (drop at t)) ≡ At at (e - 1)
+  pub find-here : sameList key (symbolsOf (take (e - at) (drop at t))) ≡ true → findLine key at (cut (drop at t)) ≡ At at (e - 1)
   unfolding findLine
   find-here s =
       let n : at + (length (take (e - at) (drop at t)) - 1) ≡ e - 1 = omega (arith, line-size t at e h q, line-starts t at e h q) in
       rw (cut-line t at e h q, s, n)
 
-  pub find-on : same key (symbolsOf (take (e - at) (drop at t))) ≡ false → findLine key at (cut (drop at t)) ≡ findLine key e (cut (drop e t))
+  pub find-on : sameList key (symbolsOf (take (e - at) (drop at t))) ≡ false → findLine key at (cut (drop at t)) ≡ findLine key e (cut (drop e t))
   unfolding findLine
   find-on s =
       let n : at + length (take (e - at) (drop at t)) ≡ e = omega (arith, line-size t at e h q, line-starts t at e h q) in
@@ -95,15 +95,15 @@ unfolding judgeLookup
 lookup-lists w c h p q = rw (← p, q)
 
 module _ (w c h : List ℕ) where
-  pub either-customer : {f : Found} {start end : ℕ} → f ≡ find w c → f ≡ At start end → Customer start end ≡ findEither w c h
+  pub either-customer : {f : ListLine} {start end : ℕ} → f ≡ find w c → f ≡ At start end → Customer start end ≡ findEither w c h
   unfolding findEither
   either-customer p q = rw (← p, q)
 
-  pub either-house : {f o : Found} {start end : ℕ} → f ≡ find w c → f ≡ Nothing → o ≡ find w h → o ≡ At start end → House start end ≡ findEither w c h
+  pub either-house : {f o : ListLine} {start end : ℕ} → f ≡ find w c → f ≡ Nothing → o ≡ find w h → o ≡ At start end → House start end ≡ findEither w c h
   unfolding findEither
   either-house p q u v = rw (← p, q, ← u, v)
 
-  pub either-nowhere : {f o : Found} → f ≡ find w c → f ≡ Nothing → o ≡ find w h → o ≡ Nothing → Nowhere ≡ findEither w c h
+  pub either-nowhere : {f o : ListLine} → f ≡ find w c → f ≡ Nothing → o ≡ find w h → o ≡ Nothing → Nowhere ≡ findEither w c h
   unfolding findEither
   either-nowhere p q u v = rw (← p, q, ← u, v)
 
@@ -128,7 +128,7 @@ total-glue b (l ∷ ls) = omega arith
 pub total-cut : (t : List ℕ) → total (cut t) ≡ length t
 unfolding cut total
 total-cut [] = refl
-total-cut (b ∷ t) = go (eqb b feed) (total-cut t)
+total-cut (b ∷ t) = go (eqb b lineFeed) (total-cut t)
   where
     go : (z : Bool) → total (cut t) ≡ length t → total (cond z ((b ∷ []) ∷ cut t) (glue b (cut t))) ≡ suc (length t)
     go true e = omega (arith, e)
@@ -141,8 +141,8 @@ pub record Within (n start end : ℕ) : Type 0 where
 
 found-within : (key : List ℕ) (at : ℕ) (ls : List (List ℕ)) (start end : ℕ) → findLine key at ls ≡ At start end → Within (at + total ls) start end
 unfolding findLine total
-found-within key at [] start end e = let z : _≡_ {A = ℕ} 0 1 = cc in absurd (omega arith)
-found-within key at (l ∷ ls) start end e = go (same key (symbolsOf l)) e (found-within key (at + length l) ls start end)
+found-within key at [] start end e = clash cc
+found-within key at (l ∷ ls) start end e = go (sameList key (symbolsOf l)) e (found-within key (at + length l) ls start end)
   where
     go : (z : Bool) → cond z (At at (at + (length l - 1))) (findLine key (at + length l) ls) ≡ At start end
         → (findLine key (at + length l) ls ≡ At start end → Within (at + length l + total ls) start end) → Within (at + (length l + total ls)) start end
@@ -155,23 +155,23 @@ find-within w t {start} {end} e =
     let f = found-within (wordSymbols w) 0 (cut t) start end e in
     record { starts = f .starts; ends = omega (arith, f .ends, total-cut t) }
 
-customer-found : (f o : Found) {start end : ℕ} → ownFirst f o ≡ Customer start end → f ≡ At start end
+customer-found : (f o : ListLine) {start end : ℕ} → ownFirst f o ≡ Customer start end → f ≡ At start end
 customer-found (At a b) o e = cc
-customer-found Nothing (At a b) e = let z : _≡_ {A = ℕ} 0 1 = cc in absurd (omega arith)
-customer-found Nothing Nothing e = let z : _≡_ {A = ℕ} 0 1 = cc in absurd (omega arith)
+customer-found Nothing (At a b) e = clash cc
+customer-found Nothing Nothing e = clash cc
 
-house-found : (f o : Found) {start end : ℕ} → ownFirst f o ≡ House start end → o ≡ At start end
-house-found (At a b) o e = let z : _≡_ {A = ℕ} 0 1 = cc in absurd (omega arith)
+house-found : (f o : ListLine) {start end : ℕ} → ownFirst f o ≡ House start end → o ≡ At start end
+house-found (At a b) o e = clash cc
 house-found Nothing (At a b) e = cc
-house-found Nothing Nothing e = let z : _≡_ {A = ℕ} 0 1 = cc in absurd (omega arith)
+house-found Nothing Nothing e = clash cc
 
 allowed-customer : (s : Check) (l : Located) {start end : ℕ} → unlessRefused s l ≡ Customer start end → l ≡ Customer start end
 allowed-customer Fine l e = e
-allowed-customer (Refused g) l e = let z : _≡_ {A = ℕ} 0 1 = cc in absurd (omega arith)
+allowed-customer (Refused g) l e = clash cc
 
 allowed-house : (s : Check) (l : Located) {start end : ℕ} → unlessRefused s l ≡ House start end → l ≡ House start end
 allowed-house Fine l e = e
-allowed-house (Refused g) l e = let z : _≡_ {A = ℕ} 0 1 = cc in absurd (omega arith)
+allowed-house (Refused g) l e = clash cc
 
 module _ (w c h : List ℕ) {start end : ℕ} where
   pub customer-within : findEither w c h ≡ Customer start end → Within (length c) start end

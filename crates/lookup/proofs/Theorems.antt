@@ -13,8 +13,8 @@ use Rattle.base.specs.Limits.{wordLimit, exceptionText, customerList, houseList
 use Rattle.base.specs.Grounds.{first}
 use Rattle.base.specs.declared.Check.{Check}
 use Rattle.base.specs.declared.Check.the-variants.{Fine, Refused}
-use Rattle.base.proofs.Lists.{same-true, same-self}
-use Rattle.words.specs.Symbols.{feed, lower, symbolsOf}
+use Rattle.base.proofs.Lists.{clash, same-true, same-self}
+use Rattle.words.specs.Symbols.{lineFeed, lower, symbolsOf}
 use Rattle.words.specs.Words.{judgeWord, wordSymbols}
 use Rattle.words.proofs.Theorems.{same-judgement, same-symbols}
 use Rattle.lines.specs.Lines.{cut, glue}
@@ -23,11 +23,11 @@ use Rattle.lists.specs.declared.Form.the-variants.{Exceptions}
 use Rattle.lists.specs.declared.Lines.{Lines}
 use Rattle.lists.specs.declared.Lines.the-variants.{Good, BadAt}
 use Rattle.lists.proofs.Theorems.{at-most-once}
-use Rattle.base.specs.Tests.{same}
+use Rattle.base.specs.Tests.{sameList}
 use Rattle.lookup.specs.Find.{findLine, find, findEither}
 use Rattle.lookup.specs.Listed.{Listed, shown}
 use Rattle.lookup.specs.Lookup.{judgeLookup, locate, lineOf}
-use Rattle.lookup.specs.declared.Found.the-variants.{At, Nothing}
+use Rattle.lookup.specs.declared.ListLine.the-variants.{At, Nothing}
 use Rattle.lookup.specs.declared.Located.the-variants.{Nowhere}
 
 -- the offset of a line among those that a text is cut into
@@ -42,12 +42,12 @@ find-nth : (key : List ℕ) (at : ℕ) (ls : List (List ℕ)) (i : ℕ) → i < 
 unfolding findLine offsetOf
 find-nth key at [] i h e n = absurd (omega arith)
 find-nth key at (l ∷ ls) zero h e n = rw (e, same-self key) (let z : at + 0 ≡ at = omega arith in rw z)
-find-nth key at (l ∷ ls) (suc i) h e n = go (same key (symbolsOf l)) refl (find-nth key (at + length l) ls i (omega arith) e (λ j k. n (suc j) (omega arith)))
+find-nth key at (l ∷ ls) (suc i) h e n = go (sameList key (symbolsOf l)) refl (find-nth key (at + length l) ls i (omega arith) e (λ j k. n (suc j) (omega arith)))
   where
     here : symbolsOf l ≡ key → ⊥
     here = n zero (omega arith)
 
-    go : (z : Bool) → same key (symbolsOf l) ≡ z
+    go : (z : Bool) → sameList key (symbolsOf l) ≡ z
         → findLine key (at + length l) ls ≡ At (at + length l + offsetOf ls i) (at + length l + offsetOf ls i + (length (getD ls i []) - 1))
         → cond z (At at (at + (length l - 1))) (findLine key (at + length l) ls) ≡ At (at + (length l + offsetOf ls i)) (at + (length l + offsetOf ls i) + (length (getD ls i []) - 1))
     go true p next = absurd (here (sym (same-true key (symbolsOf l) p)))
@@ -56,12 +56,12 @@ find-nth key at (l ∷ ls) (suc i) h e n = go (same key (symbolsOf l)) refl (fin
 find-none : (key : List ℕ) (at : ℕ) (ls : List (List ℕ)) → ((i : ℕ) → i < length ls → symbolsOf (getD ls i []) ≡ key → ⊥) → findLine key at ls ≡ Nothing
 unfolding findLine
 find-none key at [] n = refl
-find-none key at (l ∷ ls) n = go (same key (symbolsOf l)) refl (find-none key (at + length l) ls (λ i h. n (suc i) (omega arith)))
+find-none key at (l ∷ ls) n = go (sameList key (symbolsOf l)) refl (find-none key (at + length l) ls (λ i h. n (suc i) (omega arith)))
   where
     here : symbolsOf l ≡ key → ⊥
     here = n zero (omega arith)
 
-    go : (z : Bool) → same key (symbolsOf l) ≡ z → findLine key (at + length l) ls ≡ Nothing → cond z (At at (at + (length l - 1))) (findLine key (at + length l) ls) ≡ Nothing
+    go : (z : Bool) → sameList key (symbolsOf l) ≡ z → findLine key (at + length l) ls ≡ Nothing → cond z (At at (at + (length l - 1))) (findLine key (at + length l) ls) ≡ Nothing
     go true p next = absurd (here (sym (same-true key (symbolsOf l) p)))
     go false p next = next
 
@@ -78,7 +78,7 @@ join-glue b (l ∷ ls) = refl
 join-cut : (t : List ℕ) → join (cut t) ≡ t
 unfolding join cut
 join-cut [] = refl
-join-cut (b ∷ t) = go (eqb b feed) (join-cut t)
+join-cut (b ∷ t) = go (eqb b lineFeed) (join-cut t)
   where
     go : (z : Bool) → join (cut t) ≡ t → join (cond z ((b ∷ []) ∷ cut t) (glue b (cut t))) ≡ b ∷ t
     go true e = ap (λ (l : List ℕ). b ∷ l) e
@@ -140,11 +140,11 @@ listed-or-not word text = go (line-or-none (wordSymbols word) (cut text))
 -- what it says of the parts that judgements in order are fine
 pub first-fine : (a b : Check) → first a b ≡ Fine → (a ≡ Fine) × (b ≡ Fine)
 first-fine Fine b e = (refl, e)
-first-fine (Refused g) b e = let z : _≡_ {A = ℕ} 0 1 = cc in absurd (omega arith)
+first-fine (Refused g) b e = clash cc
 
 lines-fine : (list : ℕ) (l : Lines) → badException list l ≡ Fine → l ≡ Good
 lines-fine list Good e = refl
-lines-fine list (BadAt o) e = let z : _≡_ {A = ℕ} 0 1 = cc in absurd (omega arith)
+lines-fine list (BadAt o) e = clash cc
 
 -- lists that are judged fine have no bad line
 pub lists-good : (c h : List ℕ) → judgeLists c h ≡ Fine → (judgeLines Exceptions c ≡ Good) × (judgeLines Exceptions h ≡ Good)

@@ -6,12 +6,12 @@ ghost use denote.Ref.{ptr};
 ghost use Rattle.base.specs.Grounds.{Finds, says, firstOf};
 ghost use Rattle.words.specs.Symbols.{symbolsOf};
 ghost use Rattle.words.specs.Words.{wordSymbols};
-ghost use Rattle.base.specs.Tests.{same};
+ghost use Rattle.base.specs.Tests.{sameList};
 ghost use Rattle.lookup.specs.Find.{find, findEither};
 ghost use Rattle.lookup.specs.Lookup.{lookupGrounds, lineSaid, lookupSaid, locate, lineOf, placeOf};
 
 // Where a word's line stands in one list, without its line feed.
-pub enum Found {
+pub enum ListLine {
     At { start: usize, end: usize },
     Nothing,
 }
@@ -25,7 +25,7 @@ pub enum Located {
 
 // Has this line the word's letters, whatever their case?
 pub fn is_line_of(word: &[u8], line: &[u8]) -> bool
-    ensures { λ r. ⌜ r ≡ same (wordSymbols (now (word .entry))) (symbolsOf (now (line .entry))) ⌝ }
+    ensures { λ r. ⌜ r ≡ sameList (wordSymbols (now (word .entry))) (symbolsOf (now (line .entry))) ⌝ }
 {
     let mut i = 0;
     let mut j = 0;
@@ -46,21 +46,21 @@ pub fn is_line_of(word: &[u8], line: &[u8]) -> bool
 }
 
 // The word's line in a list.
-pub fn find_line(word: &[u8], text: &[u8]) -> Found
+pub fn find_line(word: &[u8], text: &[u8]) -> ListLine
     ensures { λ r. ⌜ r ≡ find (now (word .entry)) (now (text .entry)) ⌝ }
 {
     let mut at = 0;
     while at < text.len() {
         let end = lines::line_end(text, at);
         if is_line_of(word, &text[at..end]) {
-            return Found::At {
+            return ListLine::At {
                 start: at,
                 end: end - 1,
             };
         }
         at = end;
     }
-    Found::Nothing
+    ListLine::Nothing
 }
 
 // The word's line in lists that are known to be good: the customer's before the house's.
@@ -68,14 +68,14 @@ pub fn find_either(word: &[u8], customer: &[u8], house: &[u8]) -> Located
     ensures { λ r. ⌜ r ≡ findEither (now (word .entry)) (now (customer .entry)) (now (house .entry)) ⌝ }
 {
     let own = find_line(word, customer);
-    if let Found::At { start, end } = own {
+    if let ListLine::At { start, end } = own {
         return Located::Customer {
             start: start,
             end: end,
         };
     }
     let other = find_line(word, house);
-    if let Found::At { start, end } = other {
+    if let ListLine::At { start, end } = other {
         return Located::House {
             start: start,
             end: end,

@@ -5,7 +5,7 @@ use mathlib.Core.Bool.{Bool, true, false, cond}
 use mathlib.Core.List.{List, [], _∷_}
 use mathlib.Core.Path.{_≡_, refl, sym, _∙_, ap, subst}
 use borrow.Author.Tests.{eqb-true}
-use lib.Dec.{ltb, eqb}
+use lib.Dec.{eqb}
 use lib.ListN.{length}
 use Rattle.base.specs.Limits.{packRoom}
 use Rattle.base.specs.Grounds.{told, Said, Finds, Row, on, firstOf, oneOf, first, refuseIf}
@@ -16,11 +16,12 @@ use Rattle.base.specs.declared.Ground.the-variants.{PackRoomShort, NoFit}
 use Rattle.base.proofs.Grounds.{Ordered, ordered-first, ordered-if, said-found, said-refused, told-once, refuses-once, no-refusal}
 use Rattle.base.proofs.Lists.{never}
 use Rattle.base.proofs.Order.{refuses-listed}
+use Rattle.rooms.specs.Rooms.{isShort, filled}
 use Rattle.lists.specs.Lists.{patternGrounds}
 use Rattle.lists.proofs.Order.{patterns-ordered}
 use Rattle.liang.specs.Patterns.{patternsOf}
 use Rattle.fit.specs.Table.{Fit, NoRoom, Packed, firstFit}
-use Rattle.packer.specs.Pack.{hasNoRoom, packGrounds, fitBytes, packingSaid, packSaid, packedRoom, packLeft, Packs, judgePack, packing, packedAfter, packAnswer, packLeaves, Answered}
+use Rattle.packer.specs.Pack.{hasNoRoom, packGrounds, fitBytes, packingSaid, packSaid, packLeft, Packs, judgePack, packing, packedAfter, packAnswer, packLeaves, Answered}
 use Rattle.packer.specs.declared.Packing.{Packing}
 use Rattle.packer.specs.declared.Packing.the-variants as packings
 
@@ -31,12 +32,12 @@ judgeFit text size = first (judgePack text size) (refuseIf (hasNoRoom (firstFit 
 fit-ordered : (text : List ℕ) (size : ℕ) → Ordered (judgeFit text size) (packGrounds text size)
 unfolding judgeFit judgePack packGrounds
 fit-ordered text size =
-    ordered-first (ordered-first (ordered-if (ltb size packRoom) PackRoomShort) (patterns-ordered text)) (ordered-if (hasNoRoom (firstFit (patternsOf text))) NoFit)
+    ordered-first (ordered-first (ordered-if (isShort packRoom size) PackRoomShort) (patterns-ordered text)) (ordered-if (hasNoRoom (firstFit (patternsOf text))) NoFit)
 
 -- none of the grounds before the layout is 11
-early-ordered : (text : List ℕ) (size : ℕ) → Ordered (judgePack text size) (on 10 (ltb size packRoom) ∷ patternGrounds text)
+early-ordered : (text : List ℕ) (size : ℕ) → Ordered (judgePack text size) (on 10 (isShort packRoom size) ∷ patternGrounds text)
 unfolding judgePack
-early-ordered text size = ordered-first (ordered-if (ltb size packRoom) PackRoomShort) (patterns-ordered text)
+early-ordered text size = ordered-first (ordered-if (isShort packRoom size) PackRoomShort) (patterns-ordered text)
 
 not-eleven : (n : ℕ) → oneOf n (10 ∷ 8 ∷ 7 ∷ []) ≡ true → eqb n 11 ≡ false
 unfolding oneOf
@@ -50,7 +51,7 @@ pub early-number : (text : List ℕ) (size : ℕ) (g : Ground) → judgePack tex
 unfolding patternGrounds
 early-number text size g e =
     not-eleven (told g .number)
-    (refuses-listed (on 10 (ltb size packRoom) ∷ patternGrounds text) [] (said-refused (subst (λ (c : Check). Ordered c (on 10 (ltb size packRoom) ∷ patternGrounds text)) e (early-ordered text size)) []))
+    (refuses-listed (on 10 (isShort packRoom size) ∷ patternGrounds text) [] (said-refused (subst (λ (c : Check). Ordered c (on 10 (isShort packRoom size) ∷ patternGrounds text)) e (early-ordered text size)) []))
 
 -- no two packings say the same
 packing-once : (r s : Packing) → packingSaid r ≡ packingSaid s → r ≡ s
@@ -73,7 +74,7 @@ module _ {rows : List Row} (room : List ℕ) where
       → packedAfter judged fit room ≡ packLeft (firstOf (Finds (length (fitBytes fit) ∷ [])) rows) (fitBytes fit) room
   packing-left (Refused g) fit early o =
       let s = said-refused o (length (fitBytes fit) ∷ []) in
-      ap (λ (z : Bool). cond z (packedRoom [] room) room) (sym (early g refl)) ∙ ap (λ (x : Said). packLeft x (fitBytes fit) room) (sym s)
+      ap (λ (z : Bool). cond z (filled packRoom [] room) room) (sym (early g refl)) ∙ ap (λ (x : Said). packLeft x (fitBytes fit) room) (sym s)
   packing-left Fine NoRoom early o = ap (λ (x : Said). packLeft x [] room) (sym (said-refused o (0 ∷ [])))
   packing-left Fine (Packed table) early o = ap (λ (x : Said). packLeft x table room) (sym (said-found o (length table ∷ [])))
 

@@ -1,15 +1,16 @@
 -- The packer: its grounds in order, its answer, and what it leaves in the room.
-use Prim.Native.Nat.{ℕ, _-_}
+use Prim.Native.Nat.{ℕ}
 use mathlib.Core.Bool.{Bool, true, false, cond}
 use mathlib.Core.List.{List, [], _∷_, _++_}
 use mathlib.Core.Path.{_≡_}
-use lib.Dec.{ltb, eqb}
-use lib.ListN.{length, drop, replicate}
+use lib.Dec.{eqb}
+use lib.ListN.{length}
 use Rattle.base.specs.Limits.{packRoom}
 use Rattle.base.specs.Grounds.{told, Said, Finds, Refuses, Row, on, firstOf, first, refuseIf}
 use Rattle.base.specs.declared.Check.{Check}
 use Rattle.base.specs.declared.Check.the-variants.{Fine, Refused}
 use Rattle.base.specs.declared.Ground.the-variants.{PackRoomShort, NoFit}
+use Rattle.rooms.specs.Rooms.{isShort, filled}
 use Rattle.lists.specs.Lists.{patternGrounds, judgePatterns}
 use Rattle.liang.specs.Patterns.{patternsOf}
 use Rattle.fit.specs.Table.{Fit, NoRoom, Packed, firstFit}
@@ -23,7 +24,7 @@ hasNoRoom (Packed table) = false
 
 -- "packer 10, 8, 7, 11"
 unfoldable pub packGrounds : List ℕ → ℕ → List Row
-packGrounds text size = on 10 (ltb size packRoom) ∷ (patternGrounds text ++ (on 11 (hasNoRoom (firstFit (patternsOf text))) ∷ []))
+packGrounds text size = on 10 (isShort packRoom size) ∷ (patternGrounds text ++ (on 11 (hasNoRoom (firstFit (patternsOf text))) ∷ []))
 
 -- The bytes of a first-fit table; none where it has no room.
 abbrev pub fitBytes : Fit → List ℕ
@@ -39,14 +40,10 @@ packingSaid (packings.Refused g) = Refuses (told g)
 unfoldable pub packSaid : List ℕ → ℕ → Said
 packSaid text size = firstOf (Finds (length (fitBytes (firstFit (patternsOf text))) ∷ [])) (packGrounds text size)
 
--- A room that begins with some bytes: "the room beyond it up to byte 59,397 is zero, later bytes untouched".
-unfoldable pub packedRoom : List ℕ → List ℕ → List ℕ
-packedRoom bytes room = bytes ++ (replicate (packRoom - length bytes) 0 ++ drop packRoom room)
-
 -- "Refusals leave lent memory untouched, except 11, which sets the pack room's first 59,398 bytes to zero."
 abbrev pub packLeft : Said → List ℕ → List ℕ → List ℕ
-packLeft (Finds values) table room = packedRoom table room
-packLeft (Refuses t) table room = cond (eqb (t .number) 11) (packedRoom [] room) room
+packLeft (Finds values) table room = filled packRoom table room
+packLeft (Refuses t) table room = cond (eqb (t .number) 11) (filled packRoom [] room) room
 
 -- The promise of the packer.
 pub record Packs (text room : List ℕ) (r : Packing) (after : List ℕ) : Type 0 where
@@ -56,7 +53,7 @@ pub record Packs (text room : List ℕ) (r : Packing) (after : List ℕ) : Type 
 -- The same as it is computed: the grounds before the layout is made, one judgement after the other, and then what the layout
 -- comes to.
 unfoldable pub judgePack : List ℕ → ℕ → Check
-judgePack text size = first (refuseIf (ltb size packRoom) PackRoomShort) (judgePatterns text)
+judgePack text size = first (refuseIf (isShort packRoom size) PackRoomShort) (judgePatterns text)
 
 abbrev pub packing : Check → Fit → Packing
 packing (Refused g) fit = packings.Refused g
@@ -65,8 +62,8 @@ packing Fine (Packed table) = packings.Done (length table)
 
 abbrev pub packedAfter : Check → Fit → List ℕ → List ℕ
 packedAfter (Refused g) fit room = room
-packedAfter Fine NoRoom room = packedRoom [] room
-packedAfter Fine (Packed table) room = packedRoom table room
+packedAfter Fine NoRoom room = filled packRoom [] room
+packedAfter Fine (Packed table) room = filled packRoom table room
 
 -- What the packer returns and leaves for a good text, in a room that is zero where a table may stand.
 pub record Lays (text room : List ℕ) (r : Packing) (after : List ℕ) : Type 0 where

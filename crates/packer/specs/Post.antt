@@ -1,9 +1,10 @@
 -- What the packer's parts leave, as definitions for their contracts.
-use Prim.Native.Nat.{ℕ, _*_, _≤_, _/_, _%_}
-use mathlib.Core.List.{List, [], _∷_, _++_}
-use mathlib.Core.Path.{_≡_}
+use Prim.Native.Nat.{ℕ, _*_, _≤_}
+use mathlib.Core.List.{List, _++_}
 use lib.ListN.{take}
-use Rattle.table.specs.Table.{headKind, edition, cellSize, entrySize}
+use Rattle.base.specs.Limits.{cellLimit, entryLimit}
+use Rattle.table.specs.Table.{cellSize, entrySize}
+use Rattle.table.specs.Records.{headBytes}
 use Rattle.fit.specs.Entries as fit
 use Rattle.fit.specs.Table.{Fit, NoRoom, Packed}
 use Rattle.packer.specs.declared.Outcome.{Outcome}
@@ -20,13 +21,9 @@ abbrev pub entriesIn : Outcome → ℕ
 entriesIn (outcomes.Out count) = count
 entriesIn outcomes.Over = 0
 
--- A table's head.
-unfoldable pub head : ℕ → ℕ → List ℕ
-head c e = headKind ∷ edition ∷ (c / 256) ∷ (c % 256) ∷ (e / 256) ∷ (e % 256) ∷ []
-
 -- A table: the head, the first c cells and the first e entries.
 abbrev pub tableOf : ℕ → ℕ → List ℕ → List ℕ → List ℕ
-tableOf c e cells made = head c e ++ (take (cellSize * c) cells ++ take (entrySize * e) made)
+tableOf c e cells made = headBytes c e ++ (take (cellSize * c) cells ++ take (entrySize * e) made)
 
 -- What filling leaves.
 abbrev pub asFit : List ℕ → List ℕ → Filled → Fit
@@ -35,5 +32,5 @@ asFit cells made filled.Full = NoRoom
 
 -- The sizes that a filled layout keeps to.
 abbrev pub Bounded : Filled → Type 0
-Bounded (filled.Laid c e) = (c ≤ 8192) × (e ≤ 2048)
+Bounded (filled.Laid c e) = (c ≤ cellLimit) × (e ≤ entryLimit)
 Bounded filled.Full = Unit {0}

@@ -1,18 +1,16 @@
 -- What a good pattern list says of its patterns.
-use Prim.Native.Nat.{ℕ, zero, suc, _+_, _*_, _-_, _≤_, _<_}
-use mathlib.Core.Bool.{Bool, true, false, cond, not, _&&_, _||_, and-false}
+use Prim.Native.Nat.{ℕ, zero, suc, _+_, _-_, _≤_, _<_}
+use mathlib.Core.Bool.{Bool, true, false, cond, _&&_, _||_}
 use mathlib.Core.List.{List, [], _∷_, map}
 use mathlib.Core.Path.{_≡_, refl}
 use native.Mathlib.Omega.{arith}
-use borrow.Author.Tests.{leb-true, le-leb, eqb-true, eqb-false, not-false}
+use borrow.Author.Tests.{leb-true, le-leb, eqb-false}
 use lib.Dec.{leb, eqb}
-use lib.ListN.{length, getD, drop, length-map, length-drop}
-use lib.Seq.{length-take-le}
-use Rattle.base.specs.Limits.{edge, symbols, patternLimit, patternText, levelLimit}
+use lib.ListN.{length, getD, length-map}
+use Rattle.base.specs.Limits.{edge, symbolLimit, patternLimit, patternText, levelLimit}
 use Rattle.base.specs.declared.Check.the-variants.{Fine}
-use Rattle.base.specs.declared.Ground.the-variants.{TableForm}
-use Rattle.base.proofs.Grounds.{both-fine, not-refused}
-use Rattle.base.proofs.Lists.{never, both}
+use Rattle.base.proofs.Grounds.{both-fine}
+use Rattle.base.proofs.Lists.{clash, never, both}
 use Rattle.words.specs.Symbols.{dot, small, digit, symbolOf, symbolsOf}
 use Rattle.words.proofs.Laws.{range-high, small-symbol}
 use Rattle.lines.specs.Lines.{cut, anyOf, patternForm, goodPattern}
@@ -27,19 +25,19 @@ use Rattle.patterns.proofs.Laws.{line-levels}
 use Rattle.patterns.specs.Strings.{allSymbols, nth, Shaped, Sorted}
 
 -- a symbol is 1 to 27
-symbol-most : (b : ℕ) → symbolOf b ≤ symbols
+symbol-most : (b : ℕ) → symbolOf b ≤ symbolLimit
 unfolding symbolOf small
 symbol-most b = go (small b) refl (eqb b dot)
   where
-    go : (z : Bool) → small b ≡ z → (d : Bool) → cond z (b - 96) (cond d edge 0) ≤ symbols
+    go : (z : Bool) → small b ≡ z → (d : Bool) → cond z (b - 96) (cond d edge 0) ≤ symbolLimit
     go true e d = omega (arith, range-high 97 122 b e)
     go false e true = omega arith
     go false e false = omega arith
 
-symbol-range : (b : ℕ) → eqb (symbolOf b) 0 ≡ false → (leb 1 (symbolOf b) && leb (symbolOf b) symbols) ≡ true
+symbol-range : (b : ℕ) → eqb (symbolOf b) 0 ≡ false → (leb 1 (symbolOf b) && leb (symbolOf b) symbolLimit) ≡ true
 symbol-range b e =
     let z = eqb-false (symbolOf b) 0 e in
-    rw (le-leb 1 (symbolOf b) (omega arith), le-leb (symbolOf b) symbols (symbol-most b))
+    rw (le-leb 1 (symbolOf b) (omega arith), le-leb (symbolOf b) symbolLimit (symbol-most b))
 
 -- so a line's symbols are, whatever its bytes
 line-alphabet : (line : List ℕ) → allSymbols (symbolsOf line) ≡ true
@@ -100,7 +98,7 @@ each-good form at above (l ∷ ls) e (suc i) h = each-good form (at + length l) 
 
 lines-good : (l : Lines) → badPattern l ≡ Fine → l ≡ Good
 lines-good Good e = refl
-lines-good (BadAt at) e = let z : _≡_ {A = ℕ} 0 1 = cc in absurd (omega arith)
+lines-good (BadAt at) e = clash cc
 
 -- a pattern by its line's number
 nth-line : (ls : List (List ℕ)) (i : ℕ) → i < length ls → nth (map patternOf ls) i ≡ patternOf (getD ls i [])

@@ -1,5 +1,5 @@
 -- Laws about how the patterns of a list go on, as marks in a mask.
-use Prim.Native.Nat.{ℕ, _+_, _-_, _≤_, _<_}
+use Prim.Native.Nat.{ℕ, suc, _+_, _-_, _≤_, _<_}
 use mathlib.Core.Bool.{Bool, true, false, cond, _&&_, _||_}
 use mathlib.Core.List.{List, [], _∷_, map}
 use mathlib.Core.Path.{_≡_, refl, sym, _∙_, ap}
@@ -8,6 +8,7 @@ use borrow.Author.Tests.{lt-leb, le-leb, eqb-true, eqb-false}
 use lib.Dec.{leb, eqb}
 use lib.ListN.{length, getD, take, drop, set, length-set, replicate, getD-replicate, drop-of-length-le}
 use lib.Seq.{getD-set-same, getD-set-other}
+use Rattle.base.specs.Limits.{symbolLimit}
 use Rattle.words.specs.Symbols.{symbolsOf}
 use Rattle.lines.specs.Lines.{cut, lineLength}
 use Rattle.lines.proofs.Laws.{cut-line}
@@ -64,10 +65,10 @@ mask-at m own (p ∷ ps) mask s h =
     go false b e next = refl
 
 -- a clear mask, marked, says how the patterns go on
-pub mask-says : (m : ℕ) (own : List ℕ) (ps : List Pattern) {mask : List ℕ} → mask ≡ nextMask m own ps (replicate 28 0) → (s : ℕ) → s < 28 → eqb (getD mask s 0) 1 ≡ nextIn m own ps s
+pub mask-says : (m : ℕ) (own : List ℕ) (ps : List Pattern) {mask : List ℕ} → mask ≡ nextMask m own ps (replicate (suc symbolLimit) 0) → (s : ℕ) → s < suc symbolLimit → eqb (getD mask s 0) 1 ≡ nextIn m own ps s
 mask-says m own ps p s h =
     ap (λ (l : List ℕ). eqb (getD l s 0) 1) p
-    ∙ ap (λ (n : ℕ). eqb n 1) (mask-at m own ps (replicate 28 0) s h ∙ ap (cond (nextIn m own ps s) 1) (getD-replicate {A = ℕ} 28 s 0 0 h))
+    ∙ ap (λ (n : ℕ). eqb n 1) (mask-at m own ps (replicate (suc symbolLimit) 0) s h ∙ ap (cond (nextIn m own ps s) 1) (getD-replicate {A = ℕ} (suc symbolLimit) s 0 0 h))
     ∙ flag (nextIn m own ps s)
   where
     flag : (z : Bool) → eqb (cond z 1 0) 1 ≡ z

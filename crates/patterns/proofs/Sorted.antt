@@ -70,7 +70,7 @@ begins-order (x ∷ u) (y ∷ a) (z ∷ b) p q l = go (begins-cons x y u a p) (b
     go d e (inr h) next = next (d .1) (e .1) (h .1)
 
 -- what stands above a pattern: the symbols of the one before it, or `top`
-unfoldable pub above : List ℕ → List Pattern → ℕ → List ℕ
+abbrev pub above : List ℕ → List Pattern → ℕ → List ℕ
 above top patterns zero = top
 above top patterns (suc i) = nth patterns i .symbols
 
@@ -82,7 +82,7 @@ pub record New (patterns : List Pattern) (u : List ℕ) (i : ℕ) : Type 0 where
 
 -- every beginning is new somewhere: where it is not, the pattern above has it
 pub new-at : (patterns : List Pattern) (u : List ℕ) → 0 < length u → (k : ℕ) → k < length patterns → begins u (nth patterns k .symbols) ≡ true → (i : ℕ) × New patterns u i
-unfolding above common
+unfolding common
 new-at patterns u some zero h b = (0, record { within = h; stands = b; fresh = some })
 new-at patterns u some (suc k) h b =
     go (decLt (common (nth patterns k .symbols) (nth patterns (suc k) .symbols)) (length u)) (new-at patterns u some k (omega arith))
@@ -117,7 +117,6 @@ module _ (patterns : List Pattern) (sorted : Sorted patterns) (u : List ℕ) whe
 
   -- where a beginning is new, no pattern has had it
   new-first : (i : ℕ) → New patterns u i → (k : ℕ) → k < length patterns → begins u (nth patterns k .symbols) ≡ true → i ≤ k
-  unfolding above
   new-first zero n k h b = omega arith
   new-first (suc i) n k h b = go (decLt k (suc i))
     where

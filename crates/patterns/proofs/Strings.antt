@@ -10,7 +10,7 @@ use borrow.Author.Tests.{leb-true, le-leb, eqb-true, eqb-false, eq-eqb, ne-eqb}
 use lib.Dec.{leb, eqb, leb·zero, leb·suc-zero, leb·suc-suc}
 use lib.ListN.{length, getD, take, length-append}
 use lib.Seq.{take-all}
-use Rattle.base.specs.Limits.{symbols}
+use Rattle.base.specs.Limits.{symbolLimit}
 use Rattle.base.proofs.Lists.{never, both}
 use Rattle.words.proofs.Laws.{range-low, range-high}
 use Rattle.liang.specs.Patterns.{Pattern}
@@ -33,7 +33,7 @@ begins-self (x ∷ u) = begins-more x u u (begins-self u)
 
 pub alphabet-rest : (s : ℕ) (row : List ℕ) → allSymbols (s ∷ row) ≡ true → allSymbols row ≡ true
 unfolding allSymbols
-alphabet-rest s row a = both (leb 1 s && leb s symbols) (allSymbols row) a .1
+alphabet-rest s row a = both (leb 1 s && leb s symbolLimit) (allSymbols row) a .1
 
 pub begins-alphabet : (u row : List ℕ) → begins u row ≡ true → allSymbols row ≡ true → allSymbols u ≡ true
 unfolding begins allSymbols
@@ -41,7 +41,7 @@ begins-alphabet [] row b a = refl
 begins-alphabet (x ∷ u) [] b a = never b
 begins-alphabet (x ∷ u) (y ∷ row) b a =
     let p = begins-cons x y u row b in
-    let q = both (leb 1 y && leb y symbols) (allSymbols row) a in
+    let q = both (leb 1 y && leb y symbolLimit) (allSymbols row) a in
     rw (p .0, q .0, begins-alphabet u row (p .1) (q .1))
 
 -- a string that begins two lists is no longer than what they share
@@ -194,19 +194,19 @@ pub begins-whole : (u a : List ℕ) → begins u a ≡ true → length a ≤ len
 begins-whole u a b h = sym (take-all (length u) a h) ∙ take-begins u a b
 
 -- a string's symbols are 1 to 27
-pub alphabet-first : (s : ℕ) (u : List ℕ) → allSymbols (s ∷ u) ≡ true → (1 ≤ s) × (s ≤ symbols)
+pub alphabet-first : (s : ℕ) (u : List ℕ) → allSymbols (s ∷ u) ≡ true → (1 ≤ s) × (s ≤ symbolLimit)
 unfolding allSymbols
-alphabet-first s u a = let p = both (leb 1 s && leb s symbols) (allSymbols u) a in (range-low 1 symbols s (p .0), range-high 1 symbols s (p .0))
+alphabet-first s u a = let p = both (leb 1 s && leb s symbolLimit) (allSymbols u) a in (range-low 1 symbolLimit s (p .0), range-high 1 symbolLimit s (p .0))
 
-pub alphabet-most : (u : List ℕ) (m : ℕ) → allSymbols u ≡ true → getD u m 0 ≤ symbols
+pub alphabet-most : (u : List ℕ) (m : ℕ) → allSymbols u ≡ true → getD u m 0 ≤ symbolLimit
 alphabet-most [] m a = omega arith
 alphabet-most (s ∷ u) zero a = alphabet-first s u a .1
 alphabet-most (s ∷ u) (suc m) a = alphabet-most u m (alphabet-rest s u a)
 
-pub alphabet-snoc : (u : List ℕ) (s : ℕ) → allSymbols u ≡ true → 1 ≤ s → s ≤ symbols → allSymbols (u ++ (s ∷ [])) ≡ true
+pub alphabet-snoc : (u : List ℕ) (s : ℕ) → allSymbols u ≡ true → 1 ≤ s → s ≤ symbolLimit → allSymbols (u ++ (s ∷ [])) ≡ true
 unfolding allSymbols
-alphabet-snoc [] s a h k = rw (le-leb 1 s h, le-leb s symbols k)
-alphabet-snoc (x ∷ u) s a h k = let p = both (leb 1 x && leb x symbols) (allSymbols u) a in rw (p .0) (alphabet-snoc u s (p .1) h k)
+alphabet-snoc [] s a h k = rw (le-leb 1 s h, le-leb s symbolLimit k)
+alphabet-snoc (x ∷ u) s a h k = let p = both (leb 1 x && leb x symbolLimit) (allSymbols u) a in rw (p .0) (alphabet-snoc u s (p .1) h k)
 
 -- a string with one symbol more
 infixl 25 _▸_
@@ -231,18 +231,18 @@ length-none [] h = refl
 length-none (x ∷ u) h = absurd (omega arith)
 
 -- the last symbol of a string is one, and so are those before it
-pub alphabet-last : (u : List ℕ) (s : ℕ) → allSymbols (u ▸ s) ≡ true → (1 ≤ s) × (s ≤ symbols) × (allSymbols u ≡ true)
+pub alphabet-last : (u : List ℕ) (s : ℕ) → allSymbols (u ▸ s) ≡ true → (1 ≤ s) × (s ≤ symbolLimit) × (allSymbols u ≡ true)
 unfolding allSymbols
-alphabet-last [] s a = go (leb 1 s) refl (leb s symbols) refl a
+alphabet-last [] s a = go (leb 1 s) refl (leb s symbolLimit) refl a
   where
-    go : (x : Bool) → leb 1 s ≡ x → (y : Bool) → leb s symbols ≡ y → ((x && y) && true) ≡ true → (1 ≤ s) × (s ≤ symbols) × (true ≡ true)
-    go true p true q e = (leb-true 1 s p, leb-true s symbols q, refl)
+    go : (x : Bool) → leb 1 s ≡ x → (y : Bool) → leb s symbolLimit ≡ y → ((x && y) && true) ≡ true → (1 ≤ s) × (s ≤ symbolLimit) × (true ≡ true)
+    go true p true q e = (leb-true 1 s p, leb-true s symbolLimit q, refl)
     go true p false q e = never e
     go false p y q e = never e
-alphabet-last (x ∷ u) s a = go (leb 1 x && leb x symbols) a (alphabet-last u s)
+alphabet-last (x ∷ u) s a = go (leb 1 x && leb x symbolLimit) a (alphabet-last u s)
   where
-    go : (z : Bool) → (z && allSymbols (u ▸ s)) ≡ true → (allSymbols (u ▸ s) ≡ true → (1 ≤ s) × (s ≤ symbols) × (allSymbols u ≡ true))
-        → (1 ≤ s) × (s ≤ symbols) × ((z && allSymbols u) ≡ true)
+    go : (z : Bool) → (z && allSymbols (u ▸ s)) ≡ true → (allSymbols (u ▸ s) ≡ true → (1 ≤ s) × (s ≤ symbolLimit) × (allSymbols u ≡ true))
+        → (1 ≤ s) × (s ≤ symbolLimit) × ((z && allSymbols u) ≡ true)
     go true e next = next e
     go false e next = never e
 

@@ -5,7 +5,7 @@ use mathlib.Core.List.{List, [], _∷_}
 use mathlib.Core.Path.{_≡_}
 use lib.Dec.{leb}
 use lib.ListN.{length, getD}
-use Rattle.base.specs.Limits.{symbols, patternLimit}
+use Rattle.base.specs.Limits.{symbolLimit, patternLimit}
 use Rattle.lines.specs.Order.{before}
 use Rattle.liang.specs.Patterns.{Pattern}
 use Rattle.liang.specs.Levels.{begins}
@@ -13,7 +13,7 @@ use Rattle.liang.specs.Levels.{begins}
 -- Symbols: 1 to 27.
 unfoldable pub allSymbols : List ℕ → Bool
 allSymbols [] = true
-allSymbols (s ∷ u) = (leb 1 s && leb s symbols) && allSymbols u
+allSymbols (s ∷ u) = (leb 1 s && leb s symbolLimit) && allSymbols u
 
 abbrev pub noPattern : Pattern
 noPattern = record { symbols = []; levels = [] }

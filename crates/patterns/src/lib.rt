@@ -10,6 +10,9 @@ ghost use Rattle.patterns.specs.Common.{common};
 ghost use Rattle.patterns.specs.Post.{Parts};
 ghost use Rattle.patterns.specs.Next.{nextMask};
 
+// The size of a mask, in which each symbol has its mark at its own number; number 0 is no symbol's.
+pub const MASK_SIZE: usize = base::SYMBOL_LIMIT as usize + 1;
+
 // How many symbols a line has.
 pub fn symbol_count(line: &[u8]) -> usize
     ensures { λ r. ⌜ r ≡ length (symbolsOf (now (line .entry))) ⌝ }
@@ -77,10 +80,10 @@ pub fn level_at(line: &[u8], gap: usize) -> u8
 pub fn digit_value(b: u8) -> u8
     ensures { λ r. ⌜ r ≡ b - 48 ⌝ }
 {
-    if b < 48 {
+    if b < b'0' {
         return 0;
     }
-    b - 48
+    b - b'0'
 }
 
 // Where two lines part: how many leading symbols they share, and the first one's next symbol, 0 where it has none.
@@ -138,7 +141,7 @@ pub fn shared(a: &[u8], b: &[u8]) -> usize
 }
 
 // A mark in a mask, where it has that place.
-fn mark(mask: &mut [u8], symbol: u8)
+fn mark_symbol(mask: &mut [u8], symbol: u8)
     ensures { λ _. ⌜ now (mask .exit) ≡ set (now (mask .entry)) symbol 1 ⌝ }
 {
     let at = symbol as usize;
@@ -157,7 +160,7 @@ pub fn mark_next(own: &[u8], m: usize, text: &[u8], at: usize, mask: &mut [u8])
         if shared(own, &text[i..end]) < m {
             return;
         }
-        mark(mask, symbol_at(&text[i..end], m));
+        mark_symbol(mask, symbol_at(&text[i..end], m));
         i = end;
     }
 }

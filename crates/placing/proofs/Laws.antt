@@ -1,5 +1,5 @@
 -- Laws about first fit's placing: one for each way through the code.
-use Prim.Native.Nat.{ℕ, zero, suc, _+_, _*_, _-_, _/_, _%_, _≤_, _<_}
+use Prim.Native.Nat.{ℕ, zero, suc, _+_, _*_, _-_, _≤_, _<_}
 use mathlib.Core.Bool.{Bool, true, false, cond, not, _&&_, _||_}
 use mathlib.Core.List.{List, [], _∷_, map}
 use mathlib.Core.Path.{_≡_, refl, sym, _∙_, ap}
@@ -9,28 +9,28 @@ use borrow.Author.Tests.{lt-leb, le-leb, lt-ltb, le-ltb, eq-eqb, ne-eqb, ltb-tru
 use lib.Dec.{leb, ltb, eqb}
 use lib.ListN.{length, getD, take, drop, set, replicate, length-set, drop-of-length-le, List·getD-eq-default}
 use lib.Seq.{set-out, getD-take, length-take-le}
-use Rattle.base.specs.Limits.{symbols, cells}
+use Rattle.base.specs.Limits.{symbolLimit, cellLimit}
 use Rattle.base.proofs.Lists.{cons-at, never}
 use Rattle.words.specs.Symbols.{symbolsOf}
 use Rattle.lines.specs.Lines.{cut, lineLength}
 use Rattle.lines.proofs.Laws.{cut-line}
 use Rattle.liang.specs.Patterns.{Pattern, patternOf, patternsOf}
-use Rattle.table.specs.Table.{numberAt}
+use Rattle.table.specs.Table.{cellKind, cellSize, numberAt}
 use Rattle.patterns.specs.Common.{common}
-use Rattle.patterns.specs.Next.{nextIn, nextMask}
+use Rattle.patterns.specs.Next.{nextIn, nextMask, opens}
 use Rattle.patterns.proofs.Next.{mask-says}
-use Rattle.base.specs.Tests.{allFrom}
+use Rattle.base.specs.Tests.{allFrom, smallest}
 use Rattle.base.proofs.All.{all-same, all-not}
-use Rattle.fit.specs.Cells.{putNumber, isFree, serves, smallest, baseFor, inside, putCell, putCells, cellOf, putLink, Layout, Full, Fits, placeAt, place, opens, placeLength, placeLengths}
+use Rattle.fit.specs.Cells.{putNumber, isFree, serves, baseFor, inside, putCell, putCells, cellOf, putLink, Layout, Full, Fits, placeAt, place, placeLength, placeLengths}
 use Rattle.placing.specs.Post.{marked, placeLine, Sized, Placed}
 
 -- a free cell
 module _ (bytes : List ℕ) (n : ℕ) where
-  pub free-past : length bytes ≤ 6 * n + 1 → true ≡ isFree bytes n
+  pub free-past : length bytes ≤ cellSize * n + 1 → true ≡ isFree bytes n
   unfolding isFree
   free-past h = rw (List·getD-eq-default bytes 0 h)
 
-  pub free-byte : eqb (getD bytes (6 * n + 1) 0) 0 ≡ isFree bytes n
+  pub free-byte : eqb (getD bytes (cellSize * n + 1) 0) 0 ≡ isFree bytes n
   unfolding isFree
   free-byte = refl
 
@@ -48,12 +48,12 @@ module _ (bytes taken : List ℕ) (child : ℕ → Bool) (base : ℕ) where
   unfolding serves
   serves-taken h = rw (ne-eqb (getD taken base 0) 0 h)
 
-  pub serves-used : {first : ℕ} {r : Bool} → getD taken base 0 ≡ 0 → 1 ≤ first → first ≤ symbols → r ≡ (not (child first) || isFree bytes (base + first)) → r ≡ false → false ≡ serves bytes taken child base
+  pub serves-used : {first : ℕ} {r : Bool} → getD taken base 0 ≡ 0 → 1 ≤ first → first ≤ symbolLimit → r ≡ (not (child first) || isFree bytes (base + first)) → r ≡ false → false ≡ serves bytes taken child base
   unfolding serves
   serves-used {first = first} h a b e z =
-      rw (eq-eqb (getD taken base 0) 0 h) (sym (all-not (λ s. not (child s) || isFree bytes (base + s)) 1 symbols first a (omega (arith, b)) (sym e ∙ z)))
+      rw (eq-eqb (getD taken base 0) 0 h) (sym (all-not (λ s. not (child s) || isFree bytes (base + s)) 1 symbolLimit first a (omega (arith, b)) (sym e ∙ z)))
 
-  pub serves-free : {r : Bool} → getD taken base 0 ≡ 0 → r ≡ allFrom (λ s. not (child s) || isFree bytes (base + s)) 1 symbols → r ≡ serves bytes taken child base
+  pub serves-free : {r : Bool} → getD taken base 0 ≡ 0 → r ≡ allFrom (λ s. not (child s) || isFree bytes (base + s)) 1 symbolLimit → r ≡ serves bytes taken child base
   unfolding serves
   serves-free h e = e ∙ rw (eq-eqb (getD taken base 0) 0 h)
 
@@ -73,22 +73,22 @@ module _ (test : ℕ → Bool) (k total : ℕ) where
   unfolding smallest
   smallest-end h = let e : total - k ≡ 0 = omega arith in rw e
 
--- the cells below 8,192
-pub inside-start : (child : ℕ → Bool) (base : ℕ) → inside child base ≡ allFrom (λ s. not (child s) || ltb (base + s) cells) 1 (28 - 1)
+-- the cells below the limit
+pub inside-start : (child : ℕ → Bool) (base : ℕ) → inside child base ≡ allFrom (λ s. not (child s) || ltb (base + s) cellLimit) 1 (suc symbolLimit - 1)
 unfolding inside
 inside-start child base = refl
 
 -- one cell
 module _ (n s : ℕ) (bytes : List ℕ) where
-  pub cell-in : set (set bytes (6 * n) 2) (6 * n + 1) s ≡ putCell n s bytes
+  pub cell-in : set (set bytes (cellSize * n) cellKind) (cellSize * n + 1) s ≡ putCell n s bytes
   unfolding putCell
   cell-in = refl
 
-  pub cell-out : length bytes ≤ 6 * n → bytes ≡ putCell n s bytes
+  pub cell-out : length bytes ≤ cellSize * n → bytes ≡ putCell n s bytes
   unfolding putCell
   cell-out h =
-      let l : length (set bytes (6 * n) 2) ≤ 6 * n + 1 = omega (arith, length-set bytes (6 * n) 2, h) in
-      sym (set-out (set bytes (6 * n) 2) (6 * n + 1) s l ∙ set-out bytes (6 * n) 2 h)
+      let l : length (set bytes (cellSize * n) cellKind) ≤ cellSize * n + 1 = omega (arith, length-set bytes (cellSize * n) cellKind, h) in
+      sym (set-out (set bytes (cellSize * n) cellKind) (cellSize * n + 1) s l ∙ set-out bytes (cellSize * n) cellKind h)
 
 -- the cells of the symbols below a total, from k on
 module _ (child : ℕ → Bool) (base k total : ℕ) (bytes : List ℕ) where
@@ -112,7 +112,7 @@ module _ (bytes own : List ℕ) (m base i : ℕ) {s : ℕ} (l : m ≤ length own
   symbol-is : i < m → getD (take m own) i 0 ≡ s
   symbol-is h = getD-take m own i 0 h ∙ sym p
 
-  pub cell-on : {next : ℕ} → i + 1 < m → next ≡ numberAt bytes (6 * (base + s) + 2)
+  pub cell-on : {next : ℕ} → i + 1 < m → next ≡ numberAt bytes (cellSize * (base + s) + 2)
       → cellOf bytes base (drop i (take m own)) ≡ cellOf bytes next (drop (i + 1) (take m own))
   unfolding cellOf
   cell-on h q =
@@ -125,39 +125,31 @@ module _ (bytes own : List ℕ) (m base i : ℕ) {s : ℕ} (l : m ≤ length own
       let size : length (take m own) ≡ m = length-take-le m own l in
       rw (cons-at (take m own) i (omega (arith, size, h)), drop-of-length-le (take m own) {i = i + 1} (omega (arith, size, h)), symbol-is (omega (arith, h)))
 
--- a number of two bytes
-high-byte : (n : ℕ) → n < 65536 → n / 256 % 256 ≡ n / 256
-high-byte n h = omega arith
-
-pub number-put : (at n : ℕ) (bytes : List ℕ) → n < 65536 → set (set bytes at (n / 256 % 256)) (at + 1) (n % 256) ≡ putNumber at n bytes
-unfolding putNumber
-number-put at n bytes h = rw (high-byte n h)
-
 -- a path's link
-some-link : (l : List ℕ) (base : ℕ) (bytes : List ℕ) → 0 < length l → putLink l base bytes ≡ putNumber (6 * cellOf bytes 0 l + 2) base bytes
+some-link : (root : ℕ) (l : List ℕ) (base : ℕ) (bytes : List ℕ) → 0 < length l → putLink root l base bytes ≡ putNumber (cellSize * cellOf bytes root l + 2) base bytes
 unfolding putLink
-some-link [] base bytes h = absurd (omega (arith, h))
-some-link (s ∷ u) base bytes h = refl
+some-link root [] base bytes h = absurd (omega (arith, h))
+some-link root (s ∷ u) base bytes h = refl
 
-module _ (own : List ℕ) (m base : ℕ) (bytes : List ℕ) where
-  pub link-root : m ≡ 0 → bytes ≡ putLink (take m own) base bytes
+module _ (root : ℕ) (own : List ℕ) (m base : ℕ) (bytes : List ℕ) where
+  pub link-root : m ≡ 0 → bytes ≡ putLink root (take m own) base bytes
   unfolding putLink
   link-root e = rw e
 
-  module _ (h : m ≡ 0 → ⊥) (l : m ≤ length own) {n : ℕ} (p : n ≡ cellOf bytes 0 (take m own)) where
-    link-is : putLink (take m own) base bytes ≡ putNumber (6 * n + 2) base bytes
-    link-is = some-link (take m own) base bytes (omega (arith, length-take-le m own l, h)) ∙ rw p
+  module _ (h : m ≡ 0 → ⊥) (l : m ≤ length own) {n : ℕ} (p : n ≡ cellOf bytes root (take m own)) where
+    link-is : putLink root (take m own) base bytes ≡ putNumber (cellSize * n + 2) base bytes
+    link-is = some-link root (take m own) base bytes (omega (arith, length-take-le m own l, h)) ∙ rw p
 
-    pub link-in : {after : List ℕ} → after ≡ putNumber (6 * n + 2) base bytes → after ≡ putLink (take m own) base bytes
+    pub link-in : {after : List ℕ} → after ≡ putNumber (cellSize * n + 2) base bytes → after ≡ putLink root (take m own) base bytes
     link-in e = e ∙ sym link-is
 
 -- the base that a path gets
-module _ (m : ℕ) (bytes taken : List ℕ) (child : ℕ → Bool) where
-  pub base-root : m ≡ 0 → 0 ≡ baseFor m bytes taken child
+module _ (root m : ℕ) (bytes taken : List ℕ) (child : ℕ → Bool) where
+  pub base-root : m ≡ 0 → root ≡ baseFor root m bytes taken child
   unfolding baseFor
   base-root h = rw (eq-eqb m 0 h)
 
-  pub base-found : {r : ℕ} → (m ≡ 0 → ⊥) → r ≡ smallest (serves bytes taken child) 1 (8192 - 1) → r ≡ baseFor m bytes taken child
+  pub base-found : {r : ℕ} → (m ≡ 0 → ⊥) → r ≡ smallest (serves bytes taken child) 1 (cellLimit - 1) → r ≡ baseFor root m bytes taken child
   unfolding baseFor
   base-found h e = e ∙ rw (ne-eqb m 0 h)
 
@@ -167,8 +159,8 @@ unfolding smallest
 smallest-same f g h k zero = refl
 smallest-same f g h k (suc n) = rw (h k, smallest-same f g h (suc k) n)
 
-module _ (f g : ℕ → Bool) (same : (s : ℕ) → s < 28 → f s ≡ g s) where
-  cells-same : (base s n : ℕ) (bytes : List ℕ) → s + n ≤ 28 → putCells f base s n bytes ≡ putCells g base s n bytes
+module _ (f g : ℕ → Bool) (same : (s : ℕ) → s < suc symbolLimit → f s ≡ g s) where
+  cells-same : (base s n : ℕ) (bytes : List ℕ) → s + n ≤ suc symbolLimit → putCells f base s n bytes ≡ putCells g base s n bytes
   unfolding putCells
   cells-same base s zero bytes h = refl
   cells-same base s (suc n) bytes h =
@@ -178,19 +170,19 @@ module _ (f g : ℕ → Bool) (same : (s : ℕ) → s < 28 → f s ≡ g s) wher
   serves-same : (bytes taken : List ℕ) (base : ℕ) → serves bytes taken f base ≡ serves bytes taken g base
   unfolding serves
   serves-same bytes taken base =
-      ap (_&&_ (eqb (getD taken base 0) 0)) (all-same _ _ 1 symbols (λ s a b. ap (λ (x : Bool). not x || isFree bytes (base + s)) (same s (omega (arith, b)))))
+      ap (_&&_ (eqb (getD taken base 0) 0)) (all-same _ _ 1 symbolLimit (λ s a b. ap (λ (x : Bool). not x || isFree bytes (base + s)) (same s (omega (arith, b)))))
 
-  base-same : (m : ℕ) (bytes taken : List ℕ) → baseFor m bytes taken f ≡ baseFor m bytes taken g
+  base-same : (root m : ℕ) (bytes taken : List ℕ) → baseFor root m bytes taken f ≡ baseFor root m bytes taken g
   unfolding baseFor
-  base-same m bytes taken = ap (cond (eqb m 0) 0) (smallest-same (serves bytes taken f) (serves bytes taken g) (serves-same bytes taken) 1 (cells - 1))
+  base-same root m bytes taken = ap (cond (eqb m 0) root) (smallest-same (serves bytes taken f) (serves bytes taken g) (serves-same bytes taken) 1 (cellLimit - 1))
 
   inside-same : (base : ℕ) → inside f base ≡ inside g base
   unfolding inside
-  inside-same base = all-same _ _ 1 symbols (λ s a b. ap (λ (x : Bool). not x || ltb (base + s) cells) (same s (omega (arith, b))))
+  inside-same base = all-same _ _ 1 symbolLimit (λ s a b. ap (λ (x : Bool). not x || ltb (base + s) cellLimit) (same s (omega (arith, b))))
 
-  at-same : (m : ℕ) (own : List ℕ) (base : ℕ) (bytes taken : List ℕ) → placeAt m own f base bytes taken ≡ placeAt m own g base bytes taken
+  at-same : (root m : ℕ) (own : List ℕ) (base : ℕ) (bytes taken : List ℕ) → placeAt root m own f base bytes taken ≡ placeAt root m own g base bytes taken
   unfolding placeAt
-  at-same m own base bytes taken = rw (inside-same base, cells-same base 1 symbols bytes (omega arith))
+  at-same root m own base bytes taken = rw (inside-same base, cells-same base 1 symbolLimit bytes (omega arith))
 
 -- a step of placing, ended
 pub placed : {layout : Layout} {bytes taken : List ℕ} → layout ≡ Fits bytes taken → Placed layout true bytes taken
@@ -203,21 +195,21 @@ pub sized-kept : {bytes taken exit last : List ℕ} → Sized bytes taken → le
 sized-kept s a b = record { ofCells = a ∙ s .ofCells; ofBases = b ∙ s .ofBases }
 
 -- one path
-module _ (m : ℕ) (own : List ℕ) (ps : List Pattern) (bytes taken : List ℕ) {mask : List ℕ} {base : ℕ} {r : Bool} (p : mask ≡ nextMask m own ps (replicate 28 0))
-    (q : base ≡ baseFor m bytes taken (marked mask)) (i : r ≡ inside (marked mask) base) where
-  path-is : place m own ps (Fits bytes taken) ≡ placeAt m own (marked mask) base bytes taken
+module _ (root m : ℕ) (own : List ℕ) (ps : List Pattern) (bytes taken : List ℕ) {mask : List ℕ} {base : ℕ} {r : Bool} (p : mask ≡ nextMask m own ps (replicate (suc symbolLimit) 0))
+    (q : base ≡ baseFor root m bytes taken (marked mask)) (i : r ≡ inside (marked mask) base) where
+  path-is : place root m own ps (Fits bytes taken) ≡ placeAt root m own (marked mask) base bytes taken
   unfolding place
   path-is =
-      let same : (s : ℕ) → s < 28 → nextIn m own ps s ≡ marked mask s = λ s h. sym (mask-says m own ps p s h) in
-      ap (λ (b : ℕ). placeAt m own (nextIn m own ps) b bytes taken) (base-same (nextIn m own ps) (marked mask) same m bytes taken ∙ sym q)
-      ∙ at-same (nextIn m own ps) (marked mask) same m own base bytes taken
+      let same : (s : ℕ) → s < suc symbolLimit → nextIn m own ps s ≡ marked mask s = λ s h. sym (mask-says m own ps p s h) in
+      ap (λ (b : ℕ). placeAt root m own (nextIn m own ps) b bytes taken) (base-same (nextIn m own ps) (marked mask) same root m bytes taken ∙ sym q)
+      ∙ at-same (nextIn m own ps) (marked mask) same root m own base bytes taken
 
-  pub path-full : r ≡ false → Placed (place m own ps (Fits bytes taken)) false bytes taken
+  pub path-full : r ≡ false → Placed (place root m own ps (Fits bytes taken)) false bytes taken
   unfolding placeAt
   path-full e = refused (path-is ∙ rw (← i, e))
 
-  pub path-fits : {put exit last : List ℕ} → r ≡ true → put ≡ putCells (marked mask) base 1 symbols bytes → exit ≡ putLink (take m own) base put → last ≡ set taken base 1
-      → Placed (place m own ps (Fits bytes taken)) true exit last
+  pub path-fits : {put exit last : List ℕ} → r ≡ true → put ≡ putCells (marked mask) base 1 symbolLimit bytes → exit ≡ putLink root (take m own) base put → last ≡ set taken base 1
+      → Placed (place root m own ps (Fits bytes taken)) true exit last
   unfolding placeAt
   path-fits e a b c = placed (path-is ∙ rw (← i, e, c, b, a))
 
@@ -260,59 +252,59 @@ module _ (layout : Layout) (bytes taken : List ℕ) {o : Bool} where
   line-placed e p = rw e p
 
 -- what is full stays full
-length-full : (m : ℕ) (above : List ℕ) (ps : List Pattern) → placeLength m above ps Full ≡ Full
+length-full : (root m : ℕ) (above : List ℕ) (ps : List Pattern) → placeLength root m above ps Full ≡ Full
 unfolding placeLength place
-length-full m above [] = refl
-length-full m above (p ∷ ps) = ap (placeLength m (p .symbols) ps) (go (opens m above (p .symbols))) ∙ length-full m (p .symbols) ps
+length-full root m above [] = refl
+length-full root m above (p ∷ ps) = ap (placeLength root m (p .symbols) ps) (go (opens m above (p .symbols))) ∙ length-full root m (p .symbols) ps
   where
     go : (z : Bool) → cond z Full Full ≡ Full
     go true = refl
     go false = refl
 
-lengths-full : (m n : ℕ) (ps : List Pattern) → placeLengths m n ps Full ≡ Full
+lengths-full : (root m n : ℕ) (ps : List Pattern) → placeLengths root m n ps Full ≡ Full
 unfolding placeLengths
-lengths-full m zero ps = refl
-lengths-full m (suc n) ps = ap (placeLengths (suc m) n ps) (length-full m [] ps) ∙ lengths-full (suc m) n ps
+lengths-full root m zero ps = refl
+lengths-full root m (suc n) ps = ap (placeLengths root (suc m) n ps) (length-full root m [] ps) ∙ lengths-full root (suc m) n ps
 
 -- the loop over the lines
-module _ (m : ℕ) (w : List ℕ) (at e : ℕ) (above : List ℕ) (h : at < length w) (q : e ≡ at + lineLength (drop at w)) (bytes taken : List ℕ) where
-  length-turn : {next : Layout} → placeLine m (symbolsOf above) (symbolsOf (take (e - at) (drop at w))) (map patternOf (cut (drop at w))) (Fits bytes taken) ≡ next
-      → placeLength m (symbolsOf above) (map patternOf (cut (drop at w))) (Fits bytes taken) ≡ placeLength m (symbolsOf (take (e - at) (drop at w))) (map patternOf (cut (drop e w))) next
+module _ (root m : ℕ) (w : List ℕ) (at e : ℕ) (above : List ℕ) (h : at < length w) (q : e ≡ at + lineLength (drop at w)) (bytes taken : List ℕ) where
+  length-turn : {next : Layout} → placeLine root m (symbolsOf above) (symbolsOf (take (e - at) (drop at w))) (map patternOf (cut (drop at w))) (Fits bytes taken) ≡ next
+      → placeLength root m (symbolsOf above) (map patternOf (cut (drop at w))) (Fits bytes taken) ≡ placeLength root m (symbolsOf (take (e - at) (drop at w))) (map patternOf (cut (drop e w))) next
   unfolding placeLength patternOf
   length-turn p =
-      ap (λ (l : List (List ℕ)). placeLength m (symbolsOf above) (map patternOf l) (Fits bytes taken)) (cut-line w at e h q)
-      ∙ ap (placeLength m (symbolsOf (take (e - at) (drop at w))) (map patternOf (cut (drop e w))))
-      (sym (ap (λ (l : List (List ℕ)). placeLine m (symbolsOf above) (symbolsOf (take (e - at) (drop at w))) (map patternOf l) (Fits bytes taken)) (cut-line w at e h q)) ∙ p)
+      ap (λ (l : List (List ℕ)). placeLength root m (symbolsOf above) (map patternOf l) (Fits bytes taken)) (cut-line w at e h q)
+      ∙ ap (placeLength root m (symbolsOf (take (e - at) (drop at w))) (map patternOf (cut (drop e w))))
+      (sym (ap (λ (l : List (List ℕ)). placeLine root m (symbolsOf above) (symbolsOf (take (e - at) (drop at w))) (map patternOf l) (Fits bytes taken)) (cut-line w at e h q)) ∙ p)
 
   module _ {r : Bool} {exit last : List ℕ}
-      (p : Placed (placeLine m (symbolsOf above) (symbolsOf (take (e - at) (drop at w))) (map patternOf (cut (drop at w))) (Fits bytes taken)) r exit last) where
-    pub length-stop : r ≡ false → placeLength m (symbolsOf above) (map patternOf (cut (drop at w))) (Fits bytes taken) ≡ Full
-    length-stop z = length-turn (p .full z) ∙ length-full m (symbolsOf (take (e - at) (drop at w))) (map patternOf (cut (drop e w)))
+      (p : Placed (placeLine root m (symbolsOf above) (symbolsOf (take (e - at) (drop at w))) (map patternOf (cut (drop at w))) (Fits bytes taken)) r exit last) where
+    pub length-stop : r ≡ false → placeLength root m (symbolsOf above) (map patternOf (cut (drop at w))) (Fits bytes taken) ≡ Full
+    length-stop z = length-turn (p .full z) ∙ length-full root m (symbolsOf (take (e - at) (drop at w))) (map patternOf (cut (drop e w)))
 
-    pub length-on : r ≡ true → placeLength m (symbolsOf above) (map patternOf (cut (drop at w))) (Fits bytes taken)
-        ≡ placeLength m (symbolsOf (take (e - at) (drop at w))) (map patternOf (cut (drop e w))) (Fits exit last)
+    pub length-on : r ≡ true → placeLength root m (symbolsOf above) (map patternOf (cut (drop at w))) (Fits bytes taken)
+        ≡ placeLength root m (symbolsOf (take (e - at) (drop at w))) (map patternOf (cut (drop e w))) (Fits exit last)
     length-on z = length-turn (p .fits z)
 
-pub length-begin : (m : ℕ) (w : List ℕ) (layout : Layout) → placeLength m [] (patternsOf w) layout ≡ placeLength m (symbolsOf (take (0 - 0) (drop 0 w))) (map patternOf (cut (drop 0 w))) layout
+pub length-begin : (root m : ℕ) (w : List ℕ) (layout : Layout) → placeLength root m [] (patternsOf w) layout ≡ placeLength root m (symbolsOf (take (0 - 0) (drop 0 w))) (map patternOf (cut (drop 0 w))) layout
 unfolding patternsOf symbolsOf
-length-begin m w layout = refl
+length-begin root m w layout = refl
 
-pub length-done : (m : ℕ) (w : List ℕ) (at : ℕ) (above : List ℕ) (layout : Layout) → length w ≤ at → placeLength m above (map patternOf (cut (drop at w))) layout ≡ layout
+pub length-done : (root m : ℕ) (w : List ℕ) (at : ℕ) (above : List ℕ) (layout : Layout) → length w ≤ at → placeLength root m above (map patternOf (cut (drop at w))) layout ≡ layout
 unfolding placeLength cut
-length-done m w at above layout h = rw (drop-of-length-le w h)
+length-done root m w at above layout h = rw (drop-of-length-le w h)
 
 -- the loop over the lengths below a total, from m on
-module _ (m total : ℕ) (ps : List Pattern) (bytes taken : List ℕ) (h : m < total) {r : Bool} {exit last : List ℕ} (p : Placed (placeLength m [] ps (Fits bytes taken)) r exit last) where
-  lengths-turn : placeLengths m (total - m) ps (Fits bytes taken) ≡ placeLengths (m + 1) (total - (m + 1)) ps (placeLength m [] ps (Fits bytes taken))
+module _ (root m total : ℕ) (ps : List Pattern) (bytes taken : List ℕ) (h : m < total) {r : Bool} {exit last : List ℕ} (p : Placed (placeLength root m [] ps (Fits bytes taken)) r exit last) where
+  lengths-turn : placeLengths root m (total - m) ps (Fits bytes taken) ≡ placeLengths root (m + 1) (total - (m + 1)) ps (placeLength root m [] ps (Fits bytes taken))
   unfolding placeLengths
   lengths-turn = let e : total - m ≡ suc (total - (m + 1)) = omega arith in rw (e, add-one)
 
-  pub lengths-stop : r ≡ false → placeLengths m (total - m) ps (Fits bytes taken) ≡ Full
-  lengths-stop z = lengths-turn ∙ ap (placeLengths (m + 1) (total - (m + 1)) ps) (p .full z) ∙ lengths-full (m + 1) (total - (m + 1)) ps
+  pub lengths-stop : r ≡ false → placeLengths root m (total - m) ps (Fits bytes taken) ≡ Full
+  lengths-stop z = lengths-turn ∙ ap (placeLengths root (m + 1) (total - (m + 1)) ps) (p .full z) ∙ lengths-full root (m + 1) (total - (m + 1)) ps
 
-  pub lengths-on : r ≡ true → placeLengths m (total - m) ps (Fits bytes taken) ≡ placeLengths (m + 1) (total - (m + 1)) ps (Fits exit last)
-  lengths-on z = lengths-turn ∙ ap (placeLengths (m + 1) (total - (m + 1)) ps) (p .fits z)
+  pub lengths-on : r ≡ true → placeLengths root m (total - m) ps (Fits bytes taken) ≡ placeLengths root (m + 1) (total - (m + 1)) ps (Fits exit last)
+  lengths-on z = lengths-turn ∙ ap (placeLengths root (m + 1) (total - (m + 1)) ps) (p .fits z)
 
-pub lengths-done : (m total : ℕ) (ps : List Pattern) (layout : Layout) → total ≤ m → placeLengths m (total - m) ps layout ≡ layout
+pub lengths-done : (root m total : ℕ) (ps : List Pattern) (layout : Layout) → total ≤ m → placeLengths root m (total - m) ps layout ≡ layout
 unfolding placeLengths
-lengths-done m total ps layout h = let e : total - m ≡ 0 = omega arith in rw e
+lengths-done root m total ps layout h = let e : total - m ≡ 0 = omega arith in rw e

@@ -5,19 +5,21 @@ ghost use mathlib.Core.Path.{_≡_};
 ghost use Prim.Native.Nat.{_+_, _-_, _≤_, _<_};
 ghost use lib.Dec.{ltb, eqb};
 ghost use lib.ListN.{length, drop, take, set};
-ghost use Rattle.base.specs.Limits.{symbols, cells};
+ghost use Rattle.base.specs.Limits.{symbolLimit, cellLimit};
 ghost use Rattle.words.specs.Symbols.{symbolsOf};
 ghost use Rattle.lines.specs.Lines.{cut};
 ghost use Rattle.liang.specs.Patterns.{patternOf, patternsOf};
-ghost use Rattle.base.specs.Tests.{allFrom};
-ghost use Rattle.fit.specs.Cells.{Fits, isFree, serves, smallest, baseFor, inside, putCell, putCells, cellOf, putLink, place, opens, placeLength, placeLengths};
-ghost use Rattle.placing.specs.Post.{marked, placeLine, Sized, Placed};
+ghost use Rattle.base.specs.Tests.{allFrom, smallest};
+ghost use Rattle.table.specs.Table.{cellRoom};
+ghost use Rattle.patterns.specs.Next.{opens};
+ghost use Rattle.fit.specs.Cells.{Fits, isFree, serves, baseFor, inside, putCell, putCells, cellOf, putLink, place, placeLength, placeList};
+ghost use Rattle.placing.specs.Post.{marked, placeLine, cellNumbers, Sized, Placed};
 
 // Is the cell numbered base + symbol free?
 fn is_free(cells: &[u8], base: u16, symbol: u8) -> bool
     ensures { λ r. ⌜ r ≡ isFree (now (cells .entry)) (base + symbol) ⌝ }
 {
-    let at = 6 * (base as usize + symbol as usize) + 1;
+    let at = table::CELL_SIZE * (base as usize + symbol as usize) + 1;
     if cells.len() <= at {
         return true;
     }
@@ -36,11 +38,11 @@ fn is_usable(cells: &[u8], base: u16, symbol: u8, mark: u8) -> bool
 
 // Are all cells free that the marked symbols need at a base?
 fn are_usable(cells: &[u8], mask: &[u8], base: u16) -> bool
-    requires { ⌜ symbols < length (now mask) ⌝ }
-    ensures { λ r. ⌜ r ≡ allFrom (λ s. not (marked (now (mask .entry)) s) || isFree (now (cells .entry)) (base + s)) 1 symbols ⌝ }
+    requires { ⌜ symbolLimit < length (now mask) ⌝ }
+    ensures { λ r. ⌜ r ≡ allFrom (λ s. not (marked (now (mask .entry)) s) || isFree (now (cells .entry)) (base + s)) 1 symbolLimit ⌝ }
 {
     let mut symbol: u8 = 1;
-    while symbol <= base::SYMBOLS {
+    while symbol <= base::SYMBOL_LIMIT {
         if !is_usable(cells, base, symbol, mask[symbol as usize]) {
             return false;
         }
@@ -51,11 +53,11 @@ fn are_usable(cells: &[u8], mask: &[u8], base: u16) -> bool
 
 // A symbol to try before the others: the first that is marked.
 fn first_marked(mask: &[u8]) -> u8
-    requires { ⌜ symbols < length (now mask) ⌝ }
-    ensures { λ r. ⌜ (1 ≤ r) × (r ≤ symbols) ⌝ }
+    requires { ⌜ symbolLimit < length (now mask) ⌝ }
+    ensures { λ r. ⌜ (1 ≤ r) × (r ≤ symbolLimit) ⌝ }
 {
     let mut symbol: u8 = 1;
-    while symbol < base::SYMBOLS {
+    while symbol < base::SYMBOL_LIMIT {
         if mask[symbol as usize] == 1 {
             return symbol;
         }
@@ -66,7 +68,7 @@ fn first_marked(mask: &[u8]) -> u8
 
 // Does a base serve: no path has it, and the cells it needs are free? One symbol's cell is tried first, which decides most bases.
 fn is_serving(cells: &[u8], taken: &[u8], mask: &[u8], base: u16, first: u8) -> bool
-    requires { ⌜ (symbols < length (now mask)) × (base < length (now taken)) × (1 ≤ first) × (first ≤ symbols) ⌝ }
+    requires { ⌜ (symbolLimit < length (now mask)) × (base < length (now taken)) × (1 ≤ first) × (first ≤ symbolLimit) ⌝ }
     ensures { λ r. ⌜ r ≡ serves (now (cells .entry)) (now (taken .entry)) (marked (now (mask .entry))) base ⌝ }
 {
     if taken[base as usize] != 0 {
@@ -78,14 +80,14 @@ fn is_serving(cells: &[u8], taken: &[u8], mask: &[u8], base: u16, first: u8) -> 
     are_usable(cells, mask, base)
 }
 
-// The smallest base from 1 up that serves, or 8,192.
+// The smallest base from 1 up that serves, or the limit of cells.
 fn find_base(cells: &[u8], taken: &[u8], mask: &[u8]) -> u16
-    requires { ⌜ (symbols < length (now mask)) × (length (now taken) ≡ 8192) ⌝ }
-    ensures { λ r. ⌜ r ≡ smallest (serves (now (cells .entry)) (now (taken .entry)) (marked (now (mask .entry)))) 1 (8192 - 1) ⌝ }
+    requires { ⌜ (symbolLimit < length (now mask)) × (length (now taken) ≡ cellLimit) ⌝ }
+    ensures { λ r. ⌜ r ≡ smallest (serves (now (cells .entry)) (now (taken .entry)) (marked (now (mask .entry)))) 1 (cellLimit - 1) ⌝ }
 {
     let first = first_marked(mask);
     let mut base: u16 = 1;
-    while base < 8192 {
+    while (base as usize) < base::CELL_LIMIT {
         if is_serving(cells, taken, mask, base, first) {
             return base;
         }
@@ -96,21 +98,21 @@ fn find_base(cells: &[u8], taken: &[u8], mask: &[u8]) -> u16
 
 // May a symbol with this mark have a cell numbered base + symbol at all?
 fn is_below(base: u16, symbol: u8, mark: u8) -> bool
-    ensures { λ r. ⌜ r ≡ (not (eqb mark 1) || ltb (base + symbol) cells) ⌝ }
+    ensures { λ r. ⌜ r ≡ (not (eqb mark 1) || ltb (base + symbol) cellLimit) ⌝ }
 {
     if mark != 1 {
         return true;
     }
-    base as usize + (symbol as usize) < base::CELLS
+    base as usize + (symbol as usize) < base::CELL_LIMIT
 }
 
-// Are all cells that the marked symbols need at a base below 8,192?
+// Are all cells that the marked symbols need at a base below the limit?
 fn is_inside(mask: &[u8], base: u16) -> bool
-    requires { ⌜ symbols < length (now mask) ⌝ }
+    requires { ⌜ symbolLimit < length (now mask) ⌝ }
     ensures { λ r. ⌜ r ≡ inside (marked (now (mask .entry))) base ⌝ }
 {
     let mut symbol: u8 = 1;
-    while symbol <= base::SYMBOLS {
+    while symbol <= base::SYMBOL_LIMIT {
         if !is_below(base, symbol, mask[symbol as usize]) {
             return false;
         }
@@ -121,23 +123,23 @@ fn is_inside(mask: &[u8], base: u16) -> bool
 
 // A cell's kind and symbol, where there is such a cell.
 fn put_cell(cells: &mut [u8], n: usize, symbol: u8)
-    requires { ⌜ (length (now cells) ≡ 49152) × (n < 65536 + 256) ⌝ }
+    requires { ⌜ (length (now cells) ≡ cellRoom) × (n < cellNumbers) ⌝ }
     ensures { λ _. ⌜ now (cells .exit) ≡ putCell n symbol (now (cells .entry)) ⌝ }
 {
-    let at = 6 * n;
+    let at = table::CELL_SIZE * n;
     if at < cells.len() {
-        cells[at] = 2;
+        cells[at] = table::CELL_KIND;
         cells[at + 1] = symbol;
     }
 }
 
 // The cells of the marked symbols at a base.
 fn put_cells(cells: &mut [u8], mask: &[u8], base: u16)
-    requires { ⌜ (length (now cells) ≡ 49152) × (symbols < length (now mask)) ⌝ }
-    ensures { λ _. ⌜ now (cells .exit) ≡ putCells (marked (now (mask .entry))) base 1 symbols (now (cells .entry)) ⌝ }
+    requires { ⌜ (length (now cells) ≡ cellRoom) × (symbolLimit < length (now mask)) ⌝ }
+    ensures { λ _. ⌜ now (cells .exit) ≡ putCells (marked (now (mask .entry))) base 1 symbolLimit (now (cells .entry)) ⌝ }
 {
     let mut symbol: u8 = 1;
-    while symbol <= base::SYMBOLS {
+    while symbol <= base::SYMBOL_LIMIT {
         let s = symbol;
         symbol += 1;
         if mask[s as usize] == 1 {
@@ -146,41 +148,41 @@ fn put_cells(cells: &mut [u8], mask: &[u8], base: u16)
     }
 }
 
-// The number of the cell that the first m symbols of a line end in.
-pub fn cell_of(cells: &[u8], own: &[u8], m: usize) -> usize
+// The number of the cell that the first m symbols of a line end in, walked from the root's base.
+pub fn cell_of(cells: &[u8], root: u16, own: &[u8], m: usize) -> usize
     requires { ⌜ (0 < m) × (m ≤ length (symbolsOf (now own))) ⌝ }
-    ensures { λ r. ⌜ r ≡ cellOf (now (cells .entry)) 0 (take m (symbolsOf (now (own .entry)))) ⌝ }
-    ensures { λ r. ⌜ r < 65536 + 256 ⌝ }
+    ensures { λ r. ⌜ r ≡ cellOf (now (cells .entry)) root (take m (symbolsOf (now (own .entry)))) ⌝ }
+    ensures { λ r. ⌜ r < cellNumbers ⌝ }
 {
-    let mut base: u16 = 0;
+    let mut base = root;
     let mut i: usize = 0;
     while i + 1 < m {
         let n = base as usize + patterns::symbol_at(own, i) as usize;
-        base = table::number_at(cells, 6 * n + 2);
+        base = table::number_at(cells, table::CELL_SIZE * n + 2);
         i += 1;
     }
     base as usize + patterns::symbol_at(own, i) as usize
 }
 
 // A path's base as the link of its last cell. The root has none.
-fn put_link(cells: &mut [u8], own: &[u8], m: usize, base: u16)
+fn put_link(cells: &mut [u8], root: u16, own: &[u8], m: usize, base: u16)
     requires { ⌜ m ≤ length (symbolsOf (now own)) ⌝ }
-    ensures { λ _. ⌜ now (cells .exit) ≡ putLink (take m (symbolsOf (now (own .entry)))) base (now (cells .entry)) ⌝ }
+    ensures { λ _. ⌜ now (cells .exit) ≡ putLink root (take m (symbolsOf (now (own .entry)))) base (now (cells .entry)) ⌝ }
 {
     if m == 0 {
         return;
     }
-    let cell = cell_of(cells, own, m);
-    table::put_number(cells, 6 * cell + 2, base);
+    let cell = cell_of(cells, root, own, m);
+    table::put_number(cells, table::CELL_SIZE * cell + 2, base);
 }
 
-// The base that a path of m symbols gets.
-fn base_for(m: usize, cells: &[u8], taken: &[u8], mask: &[u8]) -> u16
-    requires { ⌜ (symbols < length (now mask)) × (length (now taken) ≡ 8192) ⌝ }
-    ensures { λ r. ⌜ r ≡ baseFor m (now (cells .entry)) (now (taken .entry)) (marked (now (mask .entry))) ⌝ }
+// The base that a path of m symbols gets: the root's is given.
+fn base_for(root: u16, m: usize, cells: &[u8], taken: &[u8], mask: &[u8]) -> u16
+    requires { ⌜ (symbolLimit < length (now mask)) × (length (now taken) ≡ cellLimit) ⌝ }
+    ensures { λ r. ⌜ r ≡ baseFor root m (now (cells .entry)) (now (taken .entry)) (marked (now (mask .entry))) ⌝ }
 {
     if m == 0 {
-        return 0;
+        return root;
     }
     find_base(cells, taken, mask)
 }
@@ -199,22 +201,23 @@ fn take_base(taken: &mut [u8], base: u16)
 fn place_path(
     cells: &mut [u8],
     taken: &mut [u8],
+    root: u16,
     own: &[u8],
     m: usize,
     text: &[u8],
     at: usize,
 ) -> bool
     requires { ⌜ Sized (now cells) (now taken) × (m ≤ length (symbolsOf (now own))) ⌝ }
-    ensures { λ r. ⌜ Placed (place m (symbolsOf (now (own .entry))) (map patternOf (cut (drop at (now (text .entry))))) (Fits (now (cells .entry)) (now (taken .entry)))) r (now (cells .exit)) (now (taken .exit)) ⌝ }
+    ensures { λ r. ⌜ Placed (place root m (symbolsOf (now (own .entry))) (map patternOf (cut (drop at (now (text .entry))))) (Fits (now (cells .entry)) (now (taken .entry)))) r (now (cells .exit)) (now (taken .exit)) ⌝ }
 {
-    let mut mask = [0u8; 28];
+    let mut mask = [0u8; patterns::MASK_SIZE];
     patterns::mark_next(own, m, text, at, &mut mask);
-    let base = base_for(m, cells, taken, &mask);
+    let base = base_for(root, m, cells, taken, &mask);
     if !is_inside(&mask, base) {
         return false;
     }
     put_cells(cells, &mask, base);
-    put_link(cells, own, m, base);
+    put_link(cells, root, own, m, base);
     take_base(taken, base);
     true
 }
@@ -236,6 +239,7 @@ fn is_opening(m: usize, above: &[u8], own: &[u8]) -> bool
 fn place_line(
     cells: &mut [u8],
     taken: &mut [u8],
+    root: u16,
     m: usize,
     above: &[u8],
     own: &[u8],
@@ -243,24 +247,33 @@ fn place_line(
     at: usize,
 ) -> bool
     requires { ⌜ Sized (now cells) (now taken) ⌝ }
-    ensures { λ r. ⌜ Placed (placeLine m (symbolsOf (now (above .entry))) (symbolsOf (now (own .entry))) (map patternOf (cut (drop at (now (text .entry))))) (Fits (now (cells .entry)) (now (taken .entry)))) r (now (cells .exit)) (now (taken .exit)) ⌝ }
+    ensures { λ r. ⌜ Placed (placeLine root m (symbolsOf (now (above .entry))) (symbolsOf (now (own .entry))) (map patternOf (cut (drop at (now (text .entry))))) (Fits (now (cells .entry)) (now (taken .entry)))) r (now (cells .exit)) (now (taken .exit)) ⌝ }
 {
     if !is_opening(m, above, own) {
         return true;
     }
-    place_path(cells, taken, own, m, text, at)
+    place_path(cells, taken, root, own, m, text, at)
 }
 
 // All paths of m symbols, in the text's order.
-fn place_length(cells: &mut [u8], taken: &mut [u8], m: usize, text: &[u8]) -> bool
+fn place_length(cells: &mut [u8], taken: &mut [u8], root: u16, m: usize, text: &[u8]) -> bool
     requires { ⌜ Sized (now cells) (now taken) ⌝ }
-    ensures { λ r. ⌜ Placed (placeLength m [] (patternsOf (now (text .entry))) (Fits (now (cells .entry)) (now (taken .entry)))) r (now (cells .exit)) (now (taken .exit)) ⌝ }
+    ensures { λ r. ⌜ Placed (placeLength root m [] (patternsOf (now (text .entry))) (Fits (now (cells .entry)) (now (taken .entry)))) r (now (cells .exit)) (now (taken .exit)) ⌝ }
 {
     let mut above = 0;
     let mut at = 0;
     while at < text.len() {
         let end = lines::line_end(text, at);
-        if !place_line(cells, taken, m, &text[above..at], &text[at..end], text, at) {
+        if !place_line(
+            cells,
+            taken,
+            root,
+            m,
+            &text[above..at],
+            &text[at..end],
+            text,
+            at,
+        ) {
             return false;
         }
         above = at;
@@ -269,15 +282,16 @@ fn place_length(cells: &mut [u8], taken: &mut [u8], m: usize, text: &[u8]) -> bo
     true
 }
 
-// All paths of a text, by length. Where they don't fit, what the two rooms hold is left open; their sizes stay.
-pub fn place_all(cells: &mut [u8], taken: &mut [u8], text: &[u8]) -> bool
+// All paths of a text placed into the layout that the two rooms hold, by length, the root with the base that is given.
+// Where they don't fit, what the two rooms hold is left open; their sizes stay.
+pub fn place_all(cells: &mut [u8], taken: &mut [u8], root: u16, text: &[u8]) -> bool
     requires { ⌜ Sized (now cells) (now taken) ⌝ }
-    ensures { λ r. ⌜ Placed (placeLengths 0 16 (patternsOf (now (text .entry))) (Fits (now (cells .entry)) (now (taken .entry)))) r (now (cells .exit)) (now (taken .exit)) ⌝ }
+    ensures { λ r. ⌜ Placed (placeList root (patternsOf (now (text .entry))) (Fits (now (cells .entry)) (now (taken .entry)))) r (now (cells .exit)) (now (taken .exit)) ⌝ }
     ensures left { λ _. ⌜ Sized (now (cells .exit)) (now (taken .exit)) ⌝ }
 {
     let mut m: usize = 0;
     while m < base::PATTERN_LIMIT {
-        if !place_length(cells, taken, m, text) {
+        if !place_length(cells, taken, root, m, text) {
             return false;
         }
         m += 1;

@@ -1,17 +1,18 @@
 -- Laws about the table on bytes: one for each way through the code.
 use Prim.Native.Nat.{ℕ, _+_, _*_, _-_, _/_, _%_, _≤_, _<_}
 use mathlib.Core.Bool.{and-false}
-use mathlib.Core.List.{List, []}
+use mathlib.Core.List.{List, [], _∷_, _++_}
 use mathlib.Core.Path.{_≡_, refl, sym, _∙_}
 use native.Mathlib.Omega.{arith}
 use borrow.Author.Tests.{lt-leb, le-leb, eq-eqb, ne-eqb, lt-ltb, le-ltb}
 use lib.Dec.{eqb}
 use lib.ListN.{length, getD, set, take, drop, length-drop, drop-of-length-le, List·getD-eq-default}
 use lib.Seq.{take-all, take-nil, set-out}
-use Rattle.base.specs.Limits.{cells, entries}
+use Rattle.base.specs.Limits.{cellLimit, entryLimit}
 use Rattle.base.specs.declared.Check.the-variants.{Fine, Refused}
 use Rattle.base.specs.declared.Ground.the-variants.{TableForm}
-use Rattle.table.specs.Table.{numberAt, putNumber, cellCount, entryCount, formed, judgeTable, cellsOf, entriesOf, cellsPlace, entriesPlace, look, entryAt}
+use Rattle.table.specs.Table.{headKind, edition, headSize, cellSize, numberAt, putNumber, cellCount, entryCount, formed, judgeTable, cellsFrom, entriesFrom, behind, cellsOf, entriesOf, cellsPlace, entriesPlace, look, entryAt}
+use Rattle.table.specs.Records.{twoBytes, headBytes}
 use Rattle.table.specs.declared.Look.the-variants.{Hit, Miss}
 use Rattle.table.specs.declared.Entry.the-variants.{Has, Stop}
 
@@ -68,16 +69,16 @@ module _ (t : List ℕ) (h : 6 ≤ length t) where
       unfolding judgeTable formed cellCount
       no-cells l = rw (le-leb 6 (length t) h, eq-eqb (getD t 0 0) 1 a, eq-eqb (getD t 1 0) 1 b, ← p, lt-leb 1 c l)
 
-      pub many-cells : 1 ≤ c → cells < c → Refused TableForm ≡ judgeTable t
+      pub many-cells : 1 ≤ c → cellLimit < c → Refused TableForm ≡ judgeTable t
       unfolding judgeTable formed cellCount
-      many-cells l m = rw (le-leb 6 (length t) h, eq-eqb (getD t 0 0) 1 a, eq-eqb (getD t 1 0) 1 b, ← p, le-leb 1 c l, lt-leb c cells m)
+      many-cells l m = rw (le-leb 6 (length t) h, eq-eqb (getD t 0 0) 1 a, eq-eqb (getD t 1 0) 1 b, ← p, le-leb 1 c l, lt-leb c cellLimit m)
 
-      module _ (l : 1 ≤ c) (m : c ≤ cells) {e : ℕ} (q : e ≡ numberAt t 4) where
-        pub many-entries : entries < e → Refused TableForm ≡ judgeTable t
+      module _ (l : 1 ≤ c) (m : c ≤ cellLimit) {e : ℕ} (q : e ≡ numberAt t 4) where
+        pub many-entries : entryLimit < e → Refused TableForm ≡ judgeTable t
         unfolding judgeTable formed cellCount entryCount
-        many-entries k = rw (le-leb 6 (length t) h, eq-eqb (getD t 0 0) 1 a, eq-eqb (getD t 1 0) 1 b, ← p, le-leb 1 c l, le-leb c cells m, ← q, lt-leb e entries k)
+        many-entries k = rw (le-leb 6 (length t) h, eq-eqb (getD t 0 0) 1 a, eq-eqb (getD t 1 0) 1 b, ← p, le-leb 1 c l, le-leb c cellLimit m, ← q, lt-leb e entryLimit k)
 
-        pub wrong-length : e ≤ entries → (length t ≡ 6 + 6 * c + 5 * e → ⊥) → Refused TableForm ≡ judgeTable t
+        pub wrong-length : e ≤ entryLimit → (length t ≡ 6 + 6 * c + 5 * e → ⊥) → Refused TableForm ≡ judgeTable t
         unfolding judgeTable formed cellCount entryCount
         wrong-length k d =
             rw (
@@ -86,13 +87,13 @@ module _ (t : List ℕ) (h : 6 ≤ length t) where
               eq-eqb (getD t 1 0) 1 b,
               ← p,
               le-leb 1 c l,
-              le-leb c cells m,
+              le-leb c cellLimit m,
               ← q,
-              le-leb e entries k,
+              le-leb e entryLimit k,
               ne-eqb (length t) (6 + 6 * c + 5 * e) d,
             )
 
-        pub fine-table : e ≤ entries → length t ≡ 6 + 6 * c + 5 * e → Fine ≡ judgeTable t
+        pub fine-table : e ≤ entryLimit → length t ≡ 6 + 6 * c + 5 * e → Fine ≡ judgeTable t
         unfolding judgeTable formed cellCount entryCount
         fine-table k d =
             rw (
@@ -101,64 +102,93 @@ module _ (t : List ℕ) (h : 6 ≤ length t) where
               eq-eqb (getD t 1 0) 1 b,
               ← p,
               le-leb 1 c l,
-              le-leb c cells m,
+              le-leb c cellLimit m,
               ← q,
-              le-leb e entries k,
+              le-leb e entryLimit k,
               eq-eqb (length t) (6 + 6 * c + 5 * e) d,
             )
 
--- the parts of a table
-pub cells-none : (t : List ℕ) → length t < 6 → [] ≡ cellsOf t
-unfolding cellsOf
-cells-none t h = let k : length t ≤ 6 = omega arith in rw (drop-of-length-le t k) (sym (take-nil (6 * cellCount t)))
+-- so many cells from a start on, and the entries behind them
+module _ (t : List ℕ) (start count : ℕ) where
+  pub cells-none : length t < start → [] ≡ cellsFrom start count t
+  unfolding cellsFrom
+  cells-none h = let k : length t ≤ start = omega arith in rw (drop-of-length-le t k) (sym (take-nil (6 * count)))
 
-pub cells-all : (t : List ℕ) {c : ℕ} → 6 ≤ length t → c ≡ numberAt t 2 → length t < 6 + 6 * c → take (length t - 6) (drop 6 t) ≡ cellsOf t
-unfolding cellsOf cellCount
-cells-all t {c} h p l =
-    let d : length (drop 6 t) ≤ length t - 6 = omega (arith, length-drop 6 t) in
-    let f : length (drop 6 t) ≤ 6 * numberAt t 2 = omega (arith, length-drop 6 t, p) in
-    take-all (length t - 6) (drop 6 t) d ∙ sym (take-all (6 * numberAt t 2) (drop 6 t) f)
+  pub cells-all : length t - start < 6 * count → take (length t - start) (drop start t) ≡ cellsFrom start count t
+  unfolding cellsFrom
+  cells-all h =
+      let d : length (drop start t) ≤ length t - start = omega (arith, length-drop start t) in
+      let f : length (drop start t) ≤ 6 * count = omega (arith, length-drop start t) in
+      take-all (length t - start) (drop start t) d ∙ sym (take-all (6 * count) (drop start t) f)
 
-pub cells-part : (t : List ℕ) {c : ℕ} → c ≡ numberAt t 2 → take (6 + 6 * c - 6) (drop 6 t) ≡ cellsOf t
-unfolding cellsOf cellCount
-cells-part t {c} p = let m : 6 + 6 * c - 6 ≡ 6 * numberAt t 2 = omega (arith, p) in rw m
+  pub cells-part : take (start + 6 * count - start) (drop start t) ≡ cellsFrom start count t
+  unfolding cellsFrom
+  cells-part = let m : start + 6 * count - start ≡ 6 * count = omega arith in rw m
 
-pub entries-none : (t : List ℕ) → length t < 6 → [] ≡ entriesOf t
-unfolding entriesOf
-entries-none t h = let k : length t ≤ 6 + 6 * cellCount t = omega arith in rw (drop-of-length-le t k)
+  pub entries-none : length t < start → [] ≡ entriesFrom start count t
+  unfolding entriesFrom
+  entries-none h = let k : length t ≤ start + 6 * count = omega arith in rw (drop-of-length-le t k)
 
-pub entries-past : (t : List ℕ) {c : ℕ} → c ≡ numberAt t 2 → length t < 6 + 6 * c → [] ≡ entriesOf t
-unfolding entriesOf cellCount
-entries-past t {c} p l = let k : length t ≤ 6 + 6 * numberAt t 2 = omega (arith, p) in rw (drop-of-length-le t k)
+  pub entries-past : start ≤ length t → length t - start < 6 * count → [] ≡ entriesFrom start count t
+  unfolding entriesFrom
+  entries-past l h = let k : length t ≤ start + 6 * count = omega arith in rw (drop-of-length-le t k)
 
-pub entries-part : (t : List ℕ) {c : ℕ} → c ≡ numberAt t 2 → take (length t - (6 + 6 * c)) (drop (6 + 6 * c) t) ≡ entriesOf t
-unfolding entriesOf cellCount
-entries-part t {c} p =
-    let d : length (drop (6 + 6 * c) t) ≤ length t - (6 + 6 * c) = omega (arith, length-drop (6 + 6 * c) t) in
-    take-all (length t - (6 + 6 * c)) (drop (6 + 6 * c) t) d ∙ rw p
+  pub entries-part : take (length t - (start + 6 * count)) (drop (start + 6 * count) t) ≡ entriesFrom start count t
+  unfolding entriesFrom
+  entries-part = take-all (length t - (start + 6 * count)) (drop (start + 6 * count) t) (omega (arith, length-drop (start + 6 * count) t))
 
 -- where they lie
-module _ (t : List ℕ) (at : ℕ × ℕ) where
-  pub cells-short : length t < 6 → at ≡ cellsPlace t at
-  unfolding cellsPlace
-  cells-short h = rw (lt-ltb (length t) 6 h)
+module _ (t : List ℕ) (at : ℕ × ℕ) (start : ℕ) where
+  pub cells-short : length t < start → at ≡ behind start t at
+  unfolding behind
+  cells-short h = rw (lt-ltb (length t) start h)
 
-  pub cells-behind : 6 ≤ length t → (at .0, 6 + at .1) ≡ cellsPlace t at
-  unfolding cellsPlace
-  cells-behind h = rw (le-ltb (length t) 6 h)
+  pub cells-behind : start ≤ length t → (at .0, start + at .1) ≡ behind start t at
+  unfolding behind
+  cells-behind h = rw (le-ltb (length t) start h)
 
-  pub entries-short : length t < 6 → at ≡ entriesPlace t at
+  module _ (count : ℕ) where
+    pub entries-short : length t < start → at ≡ behind (start + 6 * count) t at
+    unfolding behind
+    entries-short h = rw (lt-ltb (length t) (start + 6 * count) (omega arith))
+
+    pub entries-cut : start ≤ length t → length t - start < 6 * count → at ≡ behind (start + 6 * count) t at
+    unfolding behind
+    entries-cut l h = rw (lt-ltb (length t) (start + 6 * count) (omega arith))
+
+    pub entries-behind : start ≤ length t → 6 * count ≤ length t - start → (at .0, (start + 6 * count) + at .1) ≡ behind (start + 6 * count) t at
+    unfolding behind
+    entries-behind l h = rw (le-ltb (length t) (start + 6 * count) (omega arith))
+
+-- the cells stand behind the head, the entries behind the cells
+module _ (t : List ℕ) {c : ℕ} (p : c ≡ cellCount t) where
+  pub cells-are : {part : List ℕ} → part ≡ cellsFrom headSize c t → part ≡ cellsOf t
+  unfolding cellsOf
+  cells-are e = rw p at e
+
+  pub entries-are : {part : List ℕ} → part ≡ entriesFrom headSize c t → part ≡ entriesOf t
+  unfolding entriesOf
+  entries-are e = rw p at e
+
+  pub entries-lie : {place : ℕ × ℕ} (at : ℕ × ℕ) → place ≡ behind (headSize + cellSize * c) t at → place ≡ entriesPlace t at
   unfolding entriesPlace
-  entries-short h = rw (lt-ltb (length t) (6 + 6 * cellCount t) (omega arith))
+  entries-lie at e = rw p at e
 
-  module _ {c : ℕ} (p : c ≡ numberAt t 2) where
-    pub entries-cut : length t < 6 + 6 * c → at ≡ entriesPlace t at
-    unfolding entriesPlace cellCount
-    entries-cut l = rw (lt-ltb (length t) (6 + 6 * numberAt t 2) (omega (arith, p)))
+pub cells-lie : (t : List ℕ) {place : ℕ × ℕ} (at : ℕ × ℕ) → place ≡ behind headSize t at → place ≡ cellsPlace t at
+unfolding cellsPlace
+cells-lie t at e = e
 
-    pub entries-behind : 6 + 6 * c ≤ length t → (at .0, (6 + 6 * c) + at .1) ≡ entriesPlace t at
-    unfolding entriesPlace cellCount
-    entries-behind l = rw (le-ltb (length t) (6 + 6 * numberAt t 2) (omega (arith, p)), p)
+-- the head, byte by byte
+pub head-put : (c e : ℕ) (room : List ℕ) → headSize ≤ length room
+    → set (set (set (set (set (set room 0 headKind) 1 edition) 2 (c / 256)) 3 (c % 256)) 4 (e / 256)) 5 (e % 256) ≡ headBytes c e ++ drop headSize room
+unfolding headBytes twoBytes
+head-put c e [] h = absurd (omega arith)
+head-put c e (x ∷ []) h = absurd (omega arith)
+head-put c e (x ∷ x₁ ∷ []) h = absurd (omega arith)
+head-put c e (x ∷ x₁ ∷ x₂ ∷ []) h = absurd (omega arith)
+head-put c e (x ∷ x₁ ∷ x₂ ∷ x₃ ∷ []) h = absurd (omega arith)
+head-put c e (x ∷ x₁ ∷ x₂ ∷ x₃ ∷ x₄ ∷ []) h = absurd (omega arith)
+head-put c e (x ∷ x₁ ∷ x₂ ∷ x₃ ∷ x₄ ∷ x₅ ∷ room) h = refl
 
 -- one look
 module _ (t : List ℕ) (n s : ℕ) where

@@ -12,7 +12,7 @@ use Rattle.base.specs.declared.Check.the-variants.{Fine}
 use Rattle.base.specs.declared.Ground.the-variants.{TableForm}
 use Rattle.base.proofs.Grounds.{not-refused}
 use Rattle.base.proofs.Lists.{never}
-use Rattle.table.specs.Table.{headSize, cellSize, entrySize, cellCount, entryCount, formed, judgeTable, cellsOf, entriesOf}
+use Rattle.table.specs.Table.{headSize, cellSize, entrySize, cellCount, entryCount, formed, judgeTable, cellsFrom, entriesFrom, cellsOf, entriesOf}
 
 module _ (table : List ℕ) (fine : judgeTable table ≡ Fine) where
   table-length : length table ≡ headSize + cellSize * cellCount table + entrySize * entryCount table
@@ -24,10 +24,10 @@ module _ (table : List ℕ) (fine : judgeTable table ≡ Fine) where
       go true e = eqb-true (length table) _ e
       go false e = never (simp (e, and-false) at (not-false (formed table) (not-refused (not (formed table)) TableForm fine)))
 
-  pub cells-length : length (cellsOf table) ≡ 6 * cellCount table
-  unfolding cellsOf
+  pub cells-length : length (cellsOf table) ≡ cellSize * cellCount table
+  unfolding cellsOf cellsFrom
   cells-length = length-take-le (cellSize * cellCount table) (drop headSize table) (omega (arith, table-length, length-drop headSize table))
 
-  pub entries-length : length (entriesOf table) ≡ 5 * entryCount table
-  unfolding entriesOf
+  pub entries-length : length (entriesOf table) ≡ entrySize * entryCount table
+  unfolding entriesOf entriesFrom
   entries-length = omega (arith, table-length, length-drop (headSize + cellSize * cellCount table) table)

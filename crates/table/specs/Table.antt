@@ -4,7 +4,7 @@ use mathlib.Core.Bool.{Bool, cond, not, _&&_}
 use mathlib.Core.List.{List, [], _∷_}
 use lib.Dec.{leb, ltb, eqb}
 use lib.ListN.{length, getD, set, take, drop}
-use Rattle.base.specs.Limits.{cells, entries}
+use Rattle.base.specs.Limits.{cellLimit, entryLimit}
 use Rattle.base.specs.Grounds.{Row, on, refuseIf}
 use Rattle.base.specs.declared.Check.{Check}
 use Rattle.base.specs.declared.Ground.the-variants.{TableForm}
@@ -36,6 +36,17 @@ cellSize = 6
 abbrev pub entrySize : ℕ
 entrySize = 5
 
+-- The bytes of as many cells, and of as many entries, as a table may have.
+abbrev pub cellRoom : ℕ
+cellRoom = cellSize * cellLimit
+
+abbrev pub entryRoom : ℕ
+entryRoom = entrySize * entryLimit
+
+-- "The base starts at 0."
+abbrev pub rootBase : ℕ
+rootBase = 0
+
 -- "Numbers of two bytes have the high byte first."
 unfoldable pub numberAt : List ℕ → ℕ → ℕ
 numberAt bytes at = 256 * getD bytes at 0 + getD bytes (at + 1) 0
@@ -57,8 +68,8 @@ formed table =
     && (eqb (getD table 0 0) headKind
     && (eqb (getD table 1 0) edition
     && (leb 1 (cellCount table)
-    && (leb (cellCount table) cells
-    && (leb (entryCount table) entries
+    && (leb (cellCount table) cellLimit
+    && (leb (entryCount table) entryLimit
     && eqb (length table) (headSize + cellSize * cellCount table + entrySize * entryCount table))))))
 
 -- Ground 9: "table's length or kind 1 record wrong".
@@ -69,17 +80,24 @@ tableGrounds table = on 9 (not (formed table)) ∷ []
 unfoldable pub judgeTable : List ℕ → Check
 judgeTable table = refuseIf (not (formed table)) TableForm
 
--- "One kind 1, then C of kind 2 (cells 0 to C - 1), then E of kind 3": the bytes of the cells and those of the entries.
+-- The bytes of so many cells from a start on, and of the entries behind these, as far as they are there.
+unfoldable pub cellsFrom : ℕ → ℕ → List ℕ → List ℕ
+cellsFrom start count table = take (cellSize * count) (drop start table)
+
+unfoldable pub entriesFrom : ℕ → ℕ → List ℕ → List ℕ
+entriesFrom start count table = drop (start + cellSize * count) table
+
+-- Where a part lies that begins behind n bytes, told by a block and an offset in it, as the table itself. Where the table ends
+-- before, the part is empty and lies at the table's beginning.
+unfoldable pub behind : ℕ → List ℕ → ℕ × ℕ → ℕ × ℕ
+behind n table at = cond (ltb (length table) n) at (at .0, n + at .1)
+
+-- "One kind 1, then C of kind 2 (cells 0 to C - 1), then E of kind 3": the cells stand behind the head, the entries behind them.
 unfoldable pub cellsOf : List ℕ → List ℕ
-cellsOf table = take (cellSize * cellCount table) (drop headSize table)
+cellsOf table = cellsFrom headSize (cellCount table) table
 
 unfoldable pub entriesOf : List ℕ → List ℕ
-entriesOf table = drop (headSize + cellSize * cellCount table) table
-
--- Where these parts lie, told by a block and an offset in it, as the table itself: behind the head, and behind the cells. Where
--- the table ends before, the part is empty and lies at the table's beginning.
-abbrev pub behind : ℕ → List ℕ → ℕ × ℕ → ℕ × ℕ
-behind n table at = cond (ltb (length table) n) at (at .0, n + at .1)
+entriesOf table = entriesFrom headSize (cellCount table) table
 
 unfoldable pub cellsPlace : List ℕ → ℕ × ℕ → ℕ × ℕ
 cellsPlace table at = behind headSize table at

@@ -8,7 +8,7 @@ ghost use Rattle.base.specs.Limits.{wordLimit, rowLimit, roomSize, patternLimit
 ghost use Rattle.base.specs.declared.Check.{Check};
 ghost use Rattle.words.specs.Words.{judgeWord, rowOf};
 ghost use Rattle.walk.specs.Chain.{setting, chain};
-ghost use Rattle.walk.specs.Walk.{settings, looks};
+ghost use Rattle.walk.specs.Walk.{looks};
 ghost use Rattle.walk.specs.Raise.{raise, raiseAll};
 ghost use Rattle.walk.specs.Post.{Walked};
 
@@ -24,7 +24,7 @@ fn higher(a: u8, b: u8) -> u8
 
 // One level at the gap with so many symbols before it, where it is an inner one. It is always stored: whether a level raises
 // another can't be foreseen, and a store costs less than a branch.
-fn raise_to(room: &mut [u8; base::ROOM], n: usize, before: usize, level: u8)
+fn raise_to(room: &mut [u8; base::ROOM_SIZE], n: usize, before: usize, level: u8)
     requires { ⌜ n ≤ roomSize ⌝ }
     ensures { λ _. ⌜ now (room .exit) ≡ raise n (record { before = before; level = level }) (now (room .entry)) ⌝ }
 {
@@ -39,7 +39,14 @@ fn raise_to(room: &mut [u8; base::ROOM], n: usize, before: usize, level: u8)
 }
 
 // One entry of a chain, for a path of m symbols that ends after so many symbols of the row.
-fn apply_entry(room: &mut [u8; base::ROOM], n: usize, m: usize, end: usize, distance: u8, level: u8)
+fn apply_entry(
+    room: &mut [u8; base::ROOM_SIZE],
+    n: usize,
+    m: usize,
+    end: usize,
+    distance: u8,
+    level: u8,
+)
     requires { ⌜ (m ≤ end) × (n ≤ roomSize) ⌝ }
     ensures { λ _. ⌜ now (room .exit) ≡ raiseAll n (setting m end distance level) (now (room .entry)) ⌝ }
 {
@@ -57,7 +64,14 @@ fn apply_entry(room: &mut [u8; base::ROOM], n: usize, m: usize, end: usize, dist
 
 // The chain of entries from number k on. The number falls at each call, so a circle ends. The entries are lent by reference, and
 // the room is an array: both are then one address, and the call, the last thing done, is compiled to a jump that takes no stack.
-fn apply_chain(entries: &&[u8], k: u16, room: &mut [u8; base::ROOM], n: usize, m: usize, end: usize)
+fn apply_chain(
+    entries: &&[u8],
+    k: u16,
+    room: &mut [u8; base::ROOM_SIZE],
+    n: usize,
+    m: usize,
+    end: usize,
+)
     requires { ⌜ (m ≤ end) × (n ≤ roomSize) ⌝ }
     ensures { λ _. ⌜ now (room .exit) ≡ raiseAll n (chain (now (now (entries .entry))) m end k) (now (room .entry)) ⌝ }
 {
@@ -81,7 +95,7 @@ fn walk_row(
     root: u16,
     row: &[u8],
     n: usize,
-    room: &mut [u8; base::ROOM],
+    room: &mut [u8; base::ROOM_SIZE],
 ) -> usize
     requires { ⌜ (length (now row) ≤ rowLimit) × (n ≤ roomSize) ⌝ }
     ensures { λ r. ⌜ Walked (now (cells .entry)) (now (now (entries .entry))) root n (now (row .entry)) (now (room .entry)) r (now (room .exit)) ⌝ }
@@ -139,23 +153,23 @@ pub fn walk_word(
     entries: &[u8],
     root: u16,
     word: &[u8],
-    room: &mut [u8; base::ROOM],
+    room: &mut [u8; base::ROOM_SIZE],
 ) -> usize
     requires { ⌜ judgeWord wordLimit (now word) ≡ Check.Fine ⌝ }
     ensures { λ r. ⌜ Walked (now (cells .entry)) (now (entries .entry)) root (length (now (word .entry))) (rowOf (now (word .entry))) (replicate roomSize 0) r (now (room .exit)) ⌝ }
 {
-    let mut row = [0u8; base::ROW];
+    let mut row = [0u8; base::ROW_LIMIT];
     fill_row(word, &mut row);
     let n = word.len();
     let end = n + 2;
-    let mut levels = [0u8; base::ROOM];
+    let mut levels = [0u8; base::ROOM_SIZE];
     let looks = walk_row(cells, &entries, root, &row[..end], n, &mut levels);
     *room = levels;
     looks
 }
 
 // The chain from number k on, for a path of m symbols, in a room whose byte g + 1 is for the gap with g of the symbols before it.
-pub fn chain_levels(entries: &[u8], k: u16, m: u8, room: &mut [u8; base::ROOM])
+pub fn chain_levels(entries: &[u8], k: u16, m: u8, room: &mut [u8; base::ROOM_SIZE])
     requires { ⌜ m ≤ patternLimit ⌝ }
     ensures { λ _. ⌜ now (room .exit) ≡ raiseAll (m + 2) (chain (now (entries .entry)) m (m + 2) k) (now (room .entry)) ⌝ }
 {

@@ -12,7 +12,7 @@ use Rattle.base.specs.declared.Check.the-variants.{Fine, Refused}
 use Rattle.base.specs.declared.Ground.the-variants.{WordEmpty, WordLong, NotLetter}
 use Rattle.base.specs.Grounds.{first, refuseIf}
 use Rattle.base.proofs.Grounds.{both-fine, not-refused}
-use Rattle.base.proofs.Lists.{cons-at, never}
+use Rattle.base.proofs.Lists.{clash, cons-at, never}
 use Rattle.words.specs.Symbols.{small, capital, letter, lower, digit, symbolOf, symbolsOf, dot}
 use Rattle.words.specs.Words.{allLetters, judgeWord, wordSymbols, rowOf}
 
@@ -114,7 +114,7 @@ letters-each at (b ∷ t) e i h = go (letter b) refl e (letters-each (at + 1) t)
         → (i : ℕ) → i < length (b ∷ t) → letter (getD (b ∷ t) i 0) ≡ true
     go true p q next zero k = p
     go true p q next (suc i) k = next q i (omega arith)
-    go false p q next i k = let z : _≡_ {A = ℕ} 0 1 = cc in absurd (omega arith)
+    go false p q next i k = clash cc
 
 -- what a judged word is: short, and all letters
 module _ (limit : ℕ) (w : List ℕ) (fine : judgeWord limit w ≡ Fine) where

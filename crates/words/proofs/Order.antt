@@ -8,7 +8,7 @@ use native.Mathlib.Decide.{decLt}
 use borrow.Author.Tests.{lt-ltb, le-ltb}
 use lib.Dec.{ltb, eqb}
 use lib.ListN.{length}
-use Rattle.base.specs.Grounds.{Said, Finds, Refuses, says, firstOf, placed, onAt, first}
+use Rattle.base.specs.Grounds.{Said, Finds, Refuses, says, firstOf, placed, onAt}
 use Rattle.base.specs.declared.Check.the-variants.{Refused}
 use Rattle.base.specs.declared.Ground.the-variants.{WordEmpty, WordLong, NotLetter}
 use Rattle.base.proofs.Grounds.{Ordered, ordered-first, ordered-if}

@@ -6,8 +6,8 @@ use lib.Dec.{leb, eqb}
 use Rattle.base.specs.Limits.{edge}
 
 -- The bytes that the texts name.
-abbrev pub feed : ℕ
-feed = 10
+abbrev pub lineFeed : ℕ
+lineFeed = 10
 
 abbrev pub hyphen : ℕ
 hyphen = 45

@@ -8,22 +8,29 @@ ghost use Rattle.base.specs.Grounds.{Finds, says, firstOf};
 ghost use Rattle.words.specs.Symbols.{small, capital, letter, lower, digit, symbolOf};
 ghost use Rattle.words.specs.Words.{wordGrounds};
 
+// The bytes that the texts name (specs/Symbols.antt: lineFeed, hyphen, dot).
+pub const LINE_FEED: u8 = 10;
+
+pub const HYPHEN: u8 = 45;
+
+pub const DOT: u8 = 46;
+
 pub fn is_small(b: u8) -> bool
     ensures { λ r. ⌜ r ≡ small b ⌝ }
 {
-    if b < 97 {
+    if b < b'a' {
         return false;
     }
-    b <= 122
+    b <= b'z'
 }
 
 pub fn is_capital(b: u8) -> bool
     ensures { λ r. ⌜ r ≡ capital b ⌝ }
 {
-    if b < 65 {
+    if b < b'A' {
         return false;
     }
-    b <= 90
+    b <= b'Z'
 }
 
 pub fn is_letter(b: u8) -> bool
@@ -39,19 +46,19 @@ pub fn is_letter(b: u8) -> bool
 pub fn is_digit(b: u8) -> bool
     ensures { λ r. ⌜ r ≡ digit b ⌝ }
 {
-    if b < 49 {
+    if b < b'1' {
         return false;
     }
-    b <= 57
+    b <= b'9'
 }
 
 pub fn lower_of(b: u8) -> u8
     ensures { λ r. ⌜ r ≡ lower b ⌝ }
 {
-    if b < 65 {
+    if b < b'A' {
         return b;
     }
-    if 90 < b {
+    if b'Z' < b {
         return b;
     }
     b + 32
@@ -64,7 +71,7 @@ pub fn symbol_of(b: u8) -> u8
     if is_small(b) {
         return b - 96;
     }
-    if b == 46 {
+    if b == DOT {
         return base::EDGE;
     }
     0

@@ -3,20 +3,8 @@ use native.Mathlib.Omega.{arith}
 use Rattle.capi.proofs.told_bits.Statement.{statement}
 use Rattle.capi.proofs.told_bits.Tie as tie
 
-mul-result : tie.Need-mul-result
-mul-result c = search needs
-
-mul-result-2 : tie.Need-mul-result-2
-mul-result-2 c = search needs
-
-add-result : tie.Need-add-result
-add-result c = search needs
-
-add-result-2 : tie.Need-add-result-2
-add-result-2 c = search needs
-
 returns : tie.Need-returns
 returns c = omega arith
 
 pub told-bits-spec : {M : Type 1} → statement M
-told-bits-spec = tie.close (tie.spec mul-result mul-result-2 add-result add-result-2 returns)
+told-bits-spec = tie.close (tie.spec (λ c. search needs) (λ c. search needs) (λ c. search needs) (λ c. search needs) returns)

@@ -5,18 +5,9 @@ use Rattle.hyphenation.proofs.Order.{hyphenate-ordered, computed}
 use Rattle.capi.proofs.tteolmigu_hyphenate.Statement.{statement}
 use Rattle.capi.proofs.tteolmigu_hyphenate.Tie as tie
 
-hyphenate-requires : tie.Need-hyphenate-requires
-hyphenate-requires c κs = search needs
-
-answer-bits-requires : tie.Need-answer-bits-requires
-answer-bits-requires c κs = search needs
-
-same-length : tie.Need-same-length
-same-length c = search needs
-
 returns : tie.Need-returns
 returns c = (c .answer-bits .ensures ∙ ap answerBits (computed (hyphenate-ordered _ _ _ _ _ _ _) (c .before .before .before .hyphenate .ensures) .answered), computed (hyphenate-ordered _ _ _ _ _ _ _) (c .before .before .before .hyphenate .ensures) .memory)
 
 pub tteolmigu-hyphenate-spec : {M : Type 1} → statement M
 tteolmigu-hyphenate-spec =
-    tie.close (tie.spec hyphenate-requires answer-bits-requires same-length returns)
+    tie.close (tie.spec (λ c κs. search needs) (λ c κs. search needs) (λ c. search needs) returns)

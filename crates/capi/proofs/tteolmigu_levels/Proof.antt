@@ -5,18 +5,9 @@ use Rattle.hyphenation.proofs.Order.{levels-ordered, computed}
 use Rattle.capi.proofs.tteolmigu_levels.Statement.{statement}
 use Rattle.capi.proofs.tteolmigu_levels.Tie as tie
 
-levels-requires : tie.Need-levels-requires
-levels-requires c κs = search needs
-
-answer-bits-requires : tie.Need-answer-bits-requires
-answer-bits-requires c κs = search needs
-
-same-length : tie.Need-same-length
-same-length c = search needs
-
 returns : tie.Need-returns
 returns c = (c .answer-bits .ensures ∙ ap answerBits (computed (levels-ordered _ _ _) (c .before .before .before .levels .ensures) .answered), computed (levels-ordered _ _ _) (c .before .before .before .levels .ensures) .memory)
 
 pub tteolmigu-levels-spec : {M : Type 1} → statement M
 tteolmigu-levels-spec =
-    tie.close (tie.spec levels-requires answer-bits-requires same-length returns)
+    tie.close (tie.spec (λ c κs. search needs) (λ c κs. search needs) (λ c. search needs) returns)

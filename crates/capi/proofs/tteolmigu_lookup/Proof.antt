@@ -5,14 +5,8 @@ use Rattle.lookup.proofs.Order.{located-by}
 use Rattle.capi.proofs.tteolmigu_lookup.Statement.{statement}
 use Rattle.capi.proofs.tteolmigu_lookup.Tie as tie
 
-locate-line-requires : tie.Need-locate-line-requires
-locate-line-requires c κs = search needs
-
-located-bits-requires : tie.Need-located-bits-requires
-located-bits-requires c κs = search needs
-
 returns : tie.Need-returns
 returns c = c .located-bits .ensures ∙ ap locatedBits (located-by _ _ _ (c .before .locate-line .ensures))
 
 pub tteolmigu-lookup-spec : {M : Type 1} → statement M
-tteolmigu-lookup-spec = tie.close (tie.spec locate-line-requires located-bits-requires returns)
+tteolmigu-lookup-spec = tie.close (tie.spec (λ c κs. search needs) (λ c κs. search needs) returns)

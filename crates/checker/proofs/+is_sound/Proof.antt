@@ -1,3 +1,4 @@
+-- The entries so far have no fault, so that those from k on decide; k falls.
 use borrow.Author.Needs.{needs}
 use Prim.Native.Nat.{ℕ, _<_}
 use borrow.Fn.Kinds.{In}

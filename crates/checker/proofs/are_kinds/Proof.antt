@@ -1,8 +1,9 @@
+-- The records before n have the kind, and the next one stands at `at`; count less n falls.
 use borrow.Author.Needs.{needs}
 use Prim.Native.Nat.{_≤_, _+_, _-_}
 use mathlib.Core.Path.{_≡_, sym, _∙_}
 use lib.ListN.{length}
-use Rattle.right.specs.Test.{kindsFrom}
+use Rattle.rightness.specs.Test.{kindsFrom}
 use Rattle.checker.proofs.Laws.{kinds-past, kinds-other, kinds-pass, kinds-end, kinds-start as law-start}
 use Rattle.checker.proofs.are_kinds.Statement.{statement}
 use Rattle.checker.proofs.are_kinds.Tie as tie
@@ -17,22 +18,10 @@ loop-holds : tie.Need-loop-holds Inv-loop μ-loop
 loop-holds c = (search needs, search needs, law-start _ _ _ _)
 
 returns : tie.Need-returns Inv-loop μ-loop
-returns c = sym (c .before .before .loop .inv .2 ∙ kinds-past _ _ _ _ _ _ (c .before .loop-test .taken) (c .before .before .before .pre) (c .if1 .taken))
-
-shared-slice-read-if2 : tie.Need-shared-slice-read-if2 Inv-loop μ-loop
-shared-slice-read-if2 c = search needs
+returns c = sym (c .before .before .loop .inv .2 ∙ kinds-past _ _ _ _ _ _ (c .before .loop-test .taken) (c .before .before .before .pre .0) (c .if1 .taken))
 
 returns-2 : tie.Need-returns-2 Inv-loop μ-loop
 returns-2 c = sym (c .before .before .before .before .loop .inv .2 ∙ kinds-other _ _ _ _ _ _ (c .before .before .before .loop-test .taken) (c .if2 .taken))
-
-add-at : tie.Need-add-at Inv-loop μ-loop
-add-at c = search needs
-
-add-n : tie.Need-add-n Inv-loop μ-loop
-add-n c = search needs
-
-loop-less : tie.Need-loop-less Inv-loop μ-loop
-loop-less c = search needs
 
 loop-again : tie.Need-loop-again Inv-loop μ-loop
 loop-again c = (search needs, search needs, c .before .before .before .before .loop .inv .2 ∙ kinds-pass _ _ _ _ _ _ (c .before .before .before .loop-test .taken) (c .if2 .left))
@@ -48,10 +37,10 @@ are-kinds-spec =
     μ-loop
     loop-holds
     returns
-    shared-slice-read-if2
+    (λ c. search needs)
     returns-2
-    add-at
-    add-n
-    loop-less
+    (λ c. search needs)
+    (λ c. search needs)
+    (λ c. search needs)
     loop-again
     returns-3)

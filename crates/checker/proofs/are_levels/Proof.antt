@@ -1,3 +1,4 @@
+-- The levels of the gaps before `gap` agree, and `level` stands at it before i; the line's length less i falls.
 use borrow.Author.Needs.{needs}
 use Prim.Native.Nat.{_+_, _-_, _≤_}
 use mathlib.Core.Path.{_≡_, refl, sym, _∙_, ap}
@@ -21,26 +22,8 @@ abbrev μ-loop : tie.MeasureT-loop
 loop-holds : tie.Need-loop-holds Inv-loop μ-loop
 loop-holds c = (search needs, refl)
 
-shared-slice-read-b : tie.Need-shared-slice-read-b Inv-loop μ-loop
-shared-slice-read-b c = search needs
-
-add-i : tie.Need-add-i Inv-loop μ-loop
-add-i c = search needs
-
-is-digit-requires : tie.Need-is-digit-requires Inv-loop μ-loop
-is-digit-requires c κs = search needs
-
-digit-value-requires : tie.Need-digit-value-requires Inv-loop μ-loop
-digit-value-requires c κs = search needs
-
-loop-less : tie.Need-loop-less Inv-loop μ-loop
-loop-less c = search needs
-
 loop-again : tie.Need-loop-again Inv-loop μ-loop
 loop-again c = (omega (arith, c .before .before .before .before .before .loop .inv .0, ap length (rest-digit (c .before .before .before .before .before .before .before .args .line .now) (c .before .before .before .before .before .loop .i) (c .before .before .before .before .loop-test .taken) (sym (c .before .before .is-digit .ensures) ∙ c .before .if1 .taken))), c .before .before .before .before .before .loop .inv .1 ∙ same-digit _ _ _ _ _ (c .before .before .before .before .loop-test .taken) (sym (c .before .before .is-digit .ensures) ∙ c .before .if1 .taken) (c .digit-value .ensures))
-
-symbol-of-requires : tie.Need-symbol-of-requires Inv-loop μ-loop
-symbol-of-requires c κs = search needs
 
 add-gap : tie.Need-add-gap Inv-loop μ-loop
 add-gap c = omega (arith, c .before .before .before .before .before .before .loop .inv .0, ap length (rest-keep (c .before .before .before .before .before .before .before .before .args .line .now) (c .before .before .before .before .before .before .loop .i) (c .before .before .before .before .before .loop-test .taken) (c .before .symbol-of .ensures) (c .if2 .taken)))
@@ -51,23 +34,11 @@ element-copy-out-if3 c = omega (arith, c .before .before .before .before .before
 returns : tie.Need-returns Inv-loop μ-loop
 returns c = sym (c .before .before .before .before .before .before .before .before .loop .inv .1 ∙ same-differs _ _ _ _ _ (c .before .before .before .before .before .before .before .loop-test .taken) (sym (c .before .before .before .before .before .is-digit .ensures) ∙ c .before .before .before .before .if1 .left) (c .before .before .before .symbol-of .ensures) (c .before .before .if2 .taken) (c .if3 .taken))
 
-loop-less-2 : tie.Need-loop-less-2 Inv-loop μ-loop
-loop-less-2 c = search needs
-
 loop-again-2 : tie.Need-loop-again-2 Inv-loop μ-loop
 loop-again-2 c = (omega (arith, c .before .before .before .before .before .before .before .before .loop .inv .0, ap length (rest-keep (c .before .before .before .before .before .before .before .before .before .before .args .line .now) (c .before .before .before .before .before .before .before .before .loop .i) (c .before .before .before .before .before .before .before .loop-test .taken) (c .before .before .before .symbol-of .ensures) (c .before .before .if2 .taken))), c .before .before .before .before .before .before .before .before .loop .inv .1 ∙ same-agrees _ _ _ _ _ (c .before .before .before .before .before .before .before .loop-test .taken) (sym (c .before .before .before .before .before .is-digit .ensures) ∙ c .before .before .before .before .if1 .left) (c .before .before .before .symbol-of .ensures) (c .before .before .if2 .taken) (c .if3 .left))
 
-loop-less-3 : tie.Need-loop-less-3 Inv-loop μ-loop
-loop-less-3 c = search needs
-
 loop-again-3 : tie.Need-loop-again-3 Inv-loop μ-loop
 loop-again-3 c = (omega (arith, c .before .before .before .before .before .before .loop .inv .0, ap length (rest-skip (c .before .before .before .before .before .before .before .before .args .line .now) (c .before .before .before .before .before .before .loop .i) (c .before .before .before .before .before .loop-test .taken) (c .before .symbol-of .ensures) (c .if2 .left))), c .before .before .before .before .before .before .loop .inv .1 ∙ same-other _ _ _ _ _ (c .before .before .before .before .before .loop-test .taken) (sym (c .before .before .before .is-digit .ensures) ∙ c .before .before .if1 .left) (c .before .symbol-of .ensures) (c .if2 .left))
-
-add-result : tie.Need-add-result Inv-loop μ-loop
-add-result c = search needs
-
-element-copy-out-result : tie.Need-element-copy-out-result Inv-loop μ-loop
-element-copy-out-result c = search needs
 
 returns-2 : tie.Need-returns-2 Inv-loop μ-loop
 returns-2 c = sym (c .before .before .loop .inv .1 ∙ same-last _ _ _ _ _ (c .before .loop-test .left))
@@ -79,20 +50,20 @@ are-levels-spec =
     Inv-loop
     μ-loop
     loop-holds
-    shared-slice-read-b
-    add-i
-    is-digit-requires
-    digit-value-requires
-    loop-less
+    (λ c. search needs)
+    (λ c. search needs)
+    (λ c κs. search needs)
+    (λ c κs. search needs)
+    (λ c. search needs)
     loop-again
-    symbol-of-requires
+    (λ c κs. search needs)
     add-gap
     element-copy-out-if3
     returns
-    loop-less-2
+    (λ c. search needs)
     loop-again-2
-    loop-less-3
+    (λ c. search needs)
     loop-again-3
-    add-result
-    element-copy-out-result
+    (λ c. search needs)
+    (λ c. search needs)
     returns-2)

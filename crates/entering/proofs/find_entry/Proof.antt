@@ -1,14 +1,17 @@
+-- No entry with a number below `k` holds the three numbers; the number of entries left falls.
 use borrow.Author.Needs.{needs}
 use Prim.Native.Nat.{suc, _≤_, _*_, _-_}
 use mathlib.Core.Path.{_≡_, sym, _∙_}
 use lib.ListN.{length}
+use Rattle.base.specs.Limits.{entryLimit}
+use Rattle.table.specs.Table.{entrySize}
 use Rattle.fit.specs.Entries.{findEntry}
 use Rattle.entering.proofs.Laws.{find-start, find-here, find-on, find-none}
 use Rattle.entering.proofs.find_entry.Statement.{statement}
 use Rattle.entering.proofs.find_entry.Tie as tie
 
 abbrev Inv-loop : tie.InvT-loop
-Inv-loop bytes count distance level next k₀ k = (1 ≤ k) × (k ≤ suc count) × (5 * count ≤ length bytes) × (count ≤ 2048) × (findEntry bytes distance level next 1 count ≡ findEntry bytes distance level next k (suc count - k))
+Inv-loop bytes count distance level next k₀ k = (1 ≤ k) × (k ≤ suc count) × (entrySize * count ≤ length bytes) × (count ≤ entryLimit) × (findEntry bytes distance level next 1 count ≡ findEntry bytes distance level next k (suc count - k))
 
 abbrev μ-loop : tie.MeasureT-loop
 μ-loop bytes count distance level next k₀ k = suc count - k
@@ -16,26 +19,8 @@ abbrev μ-loop : tie.MeasureT-loop
 loop-holds : tie.Need-loop-holds Inv-loop μ-loop
 loop-holds c = (search needs, search needs, search needs, search needs, find-start _ _ _ _ _)
 
-cast-is-entry : tie.Need-cast-is-entry Inv-loop μ-loop
-cast-is-entry c = search needs
-
-sub-is-entry : tie.Need-sub-is-entry Inv-loop μ-loop
-sub-is-entry c = search needs
-
-mul-is-entry : tie.Need-mul-is-entry Inv-loop μ-loop
-mul-is-entry c = search needs
-
-is-entry-requires : tie.Need-is-entry-requires Inv-loop μ-loop
-is-entry-requires c κs = search needs
-
 returns : tie.Need-returns Inv-loop μ-loop
 returns c = sym (c .before .before .before .loop .inv .4 ∙ find-here _ _ _ _ _ _ (c .before .before .loop-test .taken) (sym (c .before .is-entry .ensures) ∙ c .if1 .taken))
-
-add-k : tie.Need-add-k Inv-loop μ-loop
-add-k c = search needs
-
-loop-less : tie.Need-loop-less Inv-loop μ-loop
-loop-less c = search needs
 
 loop-again : tie.Need-loop-again Inv-loop μ-loop
 loop-again c = (search needs, search needs, search needs, search needs, c .before .before .before .loop .inv .4 ∙ find-on _ _ _ _ _ _ (c .before .before .loop-test .taken) (sym (c .before .is-entry .ensures) ∙ c .if1 .left))
@@ -50,12 +35,12 @@ find-entry-spec =
     Inv-loop
     μ-loop
     loop-holds
-    cast-is-entry
-    sub-is-entry
-    mul-is-entry
-    is-entry-requires
+    (λ c. search needs)
+    (λ c. search needs)
+    (λ c. search needs)
+    (λ c κs. search needs)
     returns
-    add-k
-    loop-less
+    (λ c. search needs)
+    (λ c. search needs)
     loop-again
     returns-2)

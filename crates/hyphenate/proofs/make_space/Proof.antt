@@ -2,35 +2,14 @@ use borrow.Author.Needs.{needs}
 use Rattle.hyphenate.proofs.make_space.Statement.{statement}
 use Rattle.hyphenate.proofs.make_space.Tie as tie
 
-sub-if1 : tie.Need-sub-if1
-sub-if1 c = search needs
-
-sub-write-all : tie.Need-sub-write-all
-sub-write-all c = search needs
-
-part-write-all-start : tie.Need-part-write-all-start
-part-write-all-start c = search needs
-
-part-write-all-end : tie.Need-part-write-all-end
-part-write-all-end c = search needs
-
-write-all-requires : tie.Need-write-all-requires
-write-all-requires c κs = search needs
-
-returns : tie.Need-returns
-returns c = search needs
-
-returns-2 : tie.Need-returns-2
-returns-2 c = search needs
-
 pub make-space-spec : {M : Type 1} → statement M
 make-space-spec =
     tie.close
     (tie.spec
-    sub-if1
-    sub-write-all
-    part-write-all-start
-    part-write-all-end
-    write-all-requires
-    returns
-    returns-2)
+    (λ c. search needs)
+    (λ c. search needs)
+    (λ c. search needs)
+    (λ c. search needs)
+    (λ c κs. search needs)
+    (λ c. search needs)
+    (λ c. search needs))

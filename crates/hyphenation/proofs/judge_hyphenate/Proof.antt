@@ -9,60 +9,21 @@ use Rattle.hyphenation.proofs.Order.{margins-ordered, room-ordered, hyp
 use Rattle.hyphenation.proofs.judge_hyphenate.Statement.{statement}
 use Rattle.hyphenation.proofs.judge_hyphenate.Tie as tie
 
-judge-margins-requires : tie.Need-judge-margins-requires
-judge-margins-requires c κs = search needs
-
-enum-known-margins : tie.Need-enum-known-margins
-enum-known-margins c = search needs
-
 returns : tie.Need-returns
 unfolding judgeHyphenate
 returns c = said-by (hyphenate-ordered _ _ _ _ _ _ _) (sym (stop _ (judged-by (margins-ordered _ _) (c .before .before .before .judge-margins .ensures)) (c .before .margins .given .1)))
-
-enum-told : tie.Need-enum-told
-enum-told c = search needs
-
-judge-room-requires : tie.Need-judge-room-requires
-judge-room-requires c κs = search needs
-
-enum-known-room : tie.Need-enum-known-room
-enum-known-room c = search needs
 
 returns-2 : tie.Need-returns-2
 unfolding judgeHyphenate
 returns-2 c = said-by (hyphenate-ordered _ _ _ _ _ _ _) (sym (pass _ (judged-by (margins-ordered _ _) (c .before .before .before .before .before .before .judge-margins .ensures)) (c .before .before .before .before .enum-told .given .1) ∙ stop _ (judged-by (room-ordered _) (c .before .before .before .judge-room .ensures)) (c .before .room .given .1)))
 
-enum-told-2 : tie.Need-enum-told-2
-enum-told-2 c = search needs
-
-judge-word-requires : tie.Need-judge-word-requires
-judge-word-requires c κs = search needs
-
-enum-known-own : tie.Need-enum-known-own
-enum-known-own c = search needs
-
 returns-3 : tie.Need-returns-3
 unfolding judgeHyphenate
 returns-3 c = said-by (hyphenate-ordered _ _ _ _ _ _ _) (sym (pass _ (judged-by (margins-ordered _ _) (c .before .before .before .before .before .before .before .before .before .judge-margins .ensures)) (c .before .before .before .before .before .before .before .enum-told .given .1) ∙ pass _ (judged-by (room-ordered _) (c .before .before .before .before .before .before .judge-room .ensures)) (c .before .before .before .before .enum-told2 .given .1) ∙ stop _ (judged-by (word-ordered _ _) (c .before .before .before .judge-word .ensures)) (c .before .own .given .1)))
 
-enum-told-3 : tie.Need-enum-told-3
-enum-told-3 c = search needs
-
-judge-lists-requires : tie.Need-judge-lists-requires
-judge-lists-requires c κs = search needs
-
-enum-known-lists : tie.Need-enum-known-lists
-enum-known-lists c = search needs
-
 returns-4 : tie.Need-returns-4
 unfolding judgeHyphenate
 returns-4 c = said-by (hyphenate-ordered _ _ _ _ _ _ _) (sym (pass _ (judged-by (margins-ordered _ _) (c .before .before .before .before .before .before .before .before .before .before .before .before .judge-margins .ensures)) (c .before .before .before .before .before .before .before .before .before .before .enum-told .given .1) ∙ pass _ (judged-by (room-ordered _) (c .before .before .before .before .before .before .before .before .before .judge-room .ensures)) (c .before .before .before .before .before .before .before .enum-told2 .given .1) ∙ pass _ (judged-by (word-ordered _ _) (c .before .before .before .before .before .before .judge-word .ensures)) (c .before .before .before .before .enum-told3 .given .1) ∙ stop _ (judged-by (lists-ordered _ _) (c .before .before .before .judge-lists .ensures)) (c .before .lists .given .1)))
-
-enum-told-4 : tie.Need-enum-told-4
-enum-told-4 c = search needs
-
-judge-table-requires : tie.Need-judge-table-requires
-judge-table-requires c κs = search needs
 
 returns-5 : tie.Need-returns-5
 unfolding judgeHyphenate
@@ -72,21 +33,21 @@ pub judge-hyphenate-spec : {M : Type 1} → statement M
 judge-hyphenate-spec =
     tie.close
     (tie.spec
-    judge-margins-requires
-    enum-known-margins
+    (λ c κs. search needs)
+    (λ c. search needs)
     returns
-    enum-told
-    judge-room-requires
-    enum-known-room
+    (λ c. search needs)
+    (λ c κs. search needs)
+    (λ c. search needs)
     returns-2
-    enum-told-2
-    judge-word-requires
-    enum-known-own
+    (λ c. search needs)
+    (λ c κs. search needs)
+    (λ c. search needs)
     returns-3
-    enum-told-3
-    judge-lists-requires
-    enum-known-lists
+    (λ c. search needs)
+    (λ c κs. search needs)
+    (λ c. search needs)
     returns-4
-    enum-told-4
-    judge-table-requires
+    (λ c. search needs)
+    (λ c κs. search needs)
     returns-5)

@@ -5,14 +5,8 @@ use Rattle.hyphenation.proofs.Laws.{margins-left, margins-right, margin
 use Rattle.hyphenation.proofs.judge_margins.Statement.{statement}
 use Rattle.hyphenation.proofs.judge_margins.Tie as tie
 
-is-bad-margin-requires : tie.Need-is-bad-margin-requires
-is-bad-margin-requires c κs = search needs
-
 returns : tie.Need-returns
 returns c = said-by (margins-ordered _ _) (margins-left _ _ (c .before .is-bad-margin .ensures) (c .if1 .taken))
-
-is-bad-margin-requires-2 : tie.Need-is-bad-margin-requires-2
-is-bad-margin-requires-2 c κs = search needs
 
 returns-2 : tie.Need-returns-2
 returns-2 c = said-by (margins-ordered _ _) (margins-right _ _ (c .before .before .before .is-bad-margin .ensures) (c .before .before .if1 .left) (c .before .is-bad-margin2 .ensures) (c .if2 .taken))
@@ -23,4 +17,4 @@ returns-3 c = said-by (margins-ordered _ _) (margins-fine _ _ (c .before .before
 pub judge-margins-spec : {M : Type 1} → statement M
 judge-margins-spec =
     tie.close
-    (tie.spec is-bad-margin-requires returns is-bad-margin-requires-2 returns-2 returns-3)
+    (tie.spec (λ c κs. search needs) returns (λ c κs. search needs) returns-2 returns-3)

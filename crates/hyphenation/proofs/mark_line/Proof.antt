@@ -1,15 +1,16 @@
+-- What the rest of the line marks in the room now is what the whole line marks in the room before; the bytes left fall.
 use borrow.Author.Needs.{needs}
 use Prim.Native.Nat.{_≤_, _-_}
 use mathlib.Core.Path.{_≡_, refl, sym, _∙_}
 use lib.ListN.{length, drop, length-set}
 use Rattle.base.specs.Limits.{roomSize}
-use Rattle.hyphenation.specs.Breaks.{mark}
+use Rattle.hyphenation.specs.Breaks.{markHyphens}
 use Rattle.hyphenation.proofs.Laws.{mark-letter, mark-hyphen, mark-far, mark-end}
 use Rattle.hyphenation.proofs.mark_line.Statement.{statement}
 use Rattle.hyphenation.proofs.mark_line.Tie as tie
 
 abbrev Inv-loop : tie.InvT-loop
-Inv-loop line room₀ gap₀ i₀ room gap i = (i ≤ length line) × (gap ≤ i) × (length room ≡ length room₀) × (roomSize ≤ length room₀) × (mark 0 line room₀ ≡ mark gap (drop i line) room)
+Inv-loop line room₀ gap₀ i₀ room gap i = (i ≤ length line) × (gap ≤ i) × (length room ≡ length room₀) × (roomSize ≤ length room₀) × (markHyphens 0 line room₀ ≡ markHyphens gap (drop i line) room)
 
 abbrev μ-loop : tie.MeasureT-loop
 μ-loop line room₀ gap₀ i₀ room gap i = length line - i
@@ -17,38 +18,14 @@ abbrev μ-loop : tie.MeasureT-loop
 loop-holds : tie.Need-loop-holds Inv-loop μ-loop
 loop-holds c = (search needs, search needs, refl, search needs, refl)
 
-shared-slice-read-b : tie.Need-shared-slice-read-b Inv-loop μ-loop
-shared-slice-read-b c = search needs
-
-add-i : tie.Need-add-i Inv-loop μ-loop
-add-i c = search needs
-
-add-gap : tie.Need-add-gap Inv-loop μ-loop
-add-gap c = search needs
-
-loop-less : tie.Need-loop-less Inv-loop μ-loop
-loop-less c = search needs
-
 loop-again : tie.Need-loop-again Inv-loop μ-loop
 loop-again c = (search needs, search needs, c .before .before .before .loop .inv .2, search needs, c .before .before .before .loop .inv .4 ∙ mark-letter _ _ (c .before .before .loop-test .taken) _ _ (c .if1 .taken))
-
-slice-write-room : tie.Need-slice-write-room Inv-loop μ-loop
-slice-write-room c = search needs
-
-loop-less-2 : tie.Need-loop-less-2 Inv-loop μ-loop
-loop-less-2 c = search needs
 
 loop-again-2 : tie.Need-loop-again-2 Inv-loop μ-loop
 loop-again-2 c = (search needs, search needs, simp length-set (c .before .before .before .before .loop .inv .2), search needs, c .before .before .before .before .loop .inv .4 ∙ mark-hyphen _ _ (c .before .before .before .loop-test .taken) _ _ (c .before .if1 .left) (c .if2 .taken))
 
-loop-less-3 : tie.Need-loop-less-3 Inv-loop μ-loop
-loop-less-3 c = search needs
-
 loop-again-3 : tie.Need-loop-again-3 Inv-loop μ-loop
 loop-again-3 c = (search needs, search needs, c .before .before .before .before .loop .inv .2, search needs, c .before .before .before .before .loop .inv .4 ∙ mark-far _ _ (c .before .before .before .loop-test .taken) _ _ (c .before .if1 .left) (c .if2 .left))
-
-same-length : tie.Need-same-length Inv-loop μ-loop
-same-length c = search needs
 
 returns : tie.Need-returns Inv-loop μ-loop
 returns c = sym (c .before .loop .inv .4 ∙ mark-end _ _ _ _ (c .loop-test .left))
@@ -60,15 +37,15 @@ mark-line-spec =
     Inv-loop
     μ-loop
     loop-holds
-    shared-slice-read-b
-    add-i
-    add-gap
-    loop-less
+    (λ c. search needs)
+    (λ c. search needs)
+    (λ c. search needs)
+    (λ c. search needs)
     loop-again
-    slice-write-room
-    loop-less-2
+    (λ c. search needs)
+    (λ c. search needs)
     loop-again-2
-    loop-less-3
+    (λ c. search needs)
     loop-again-3
-    same-length
+    (λ c. search needs)
     returns)

@@ -1,3 +1,4 @@
+-- The line is good where the rest is, after the symbols and digits seen, and its end is the rest's; what is left of the text falls.
 use borrow.Author.Needs.{needs}
 use Prim.Native.Nat.{_+_, _≤_, _-_}
 use mathlib.Core.Path.{_≡_, refl, sym, _∙_}
@@ -18,47 +19,17 @@ abbrev μ-loop : tie.MeasureT-loop
 loop-holds : tie.Need-loop-holds Inv-loop μ-loop
 loop-holds c = (search needs, refl, law.pattern-start _)
 
-shared-slice-read-b : tie.Need-shared-slice-read-b Inv-loop μ-loop
-shared-slice-read-b c = search needs
-
-add-i : tie.Need-add-i Inv-loop μ-loop
-add-i c = search needs
-
-is-small-requires : tie.Need-is-small-requires Inv-loop μ-loop
-is-small-requires c κs = search needs
-
-add-count : tie.Need-add-count Inv-loop μ-loop
-add-count c = search needs
-
-loop-less : tie.Need-loop-less Inv-loop μ-loop
-loop-less c = search needs
-
 loop-again : tie.Need-loop-again Inv-loop μ-loop
 loop-again c = (search needs, law.end-on _ _ _ (c .before .before .before .before .loop .inv .1) (c .before .before .before .loop-test .taken) (law.small-not-feed _ (sym (c .before .is-small .ensures) ∙ c .if1 .taken)), c .before .before .before .before .loop .inv .2 ∙ law.pattern-letter _ _ (c .before .before .before .loop-test .taken) _ _ _ _ _ (sym (c .before .is-small .ensures) ∙ c .if1 .taken))
-
-is-digit-requires : tie.Need-is-digit-requires Inv-loop μ-loop
-is-digit-requires c κs = search needs
 
 returns : tie.Need-returns Inv-loop μ-loop
 returns c = law.end-bad _ (c .before .before .before .before .before .before .before .loop .inv .2 ∙ law.pattern-digits _ _ (c .before .before .before .before .before .before .loop-test .taken) _ _ _ _ _ (sym (c .before .before .before .before .is-small .ensures) ∙ c .before .before .before .if1 .left) (sym (c .before .before .is-digit .ensures) ∙ c .before .if2 .taken) (c .if3 .taken))
 
-loop-less-2 : tie.Need-loop-less-2 Inv-loop μ-loop
-loop-less-2 c = search needs
-
 loop-again-2 : tie.Need-loop-again-2 Inv-loop μ-loop
 loop-again-2 c = (search needs, law.end-on _ _ _ (c .before .before .before .before .before .before .before .loop .inv .1) (c .before .before .before .before .before .before .loop-test .taken) (law.digit-not-feed _ (sym (c .before .before .is-digit .ensures) ∙ c .before .if2 .taken)), c .before .before .before .before .before .before .before .loop .inv .2 ∙ law.pattern-digit _ _ (c .before .before .before .before .before .before .loop-test .taken) _ _ _ _ _ (sym (c .before .before .before .before .is-small .ensures) ∙ c .before .before .before .if1 .left) (sym (c .before .before .is-digit .ensures) ∙ c .before .if2 .taken) (c .if3 .left))
 
-dot-fits-requires : tie.Need-dot-fits-requires Inv-loop μ-loop
-dot-fits-requires c κs = search needs
-
 returns-2 : tie.Need-returns-2 Inv-loop μ-loop
 returns-2 c = law.end-bad _ (c .before .before .before .before .before .before .before .before .before .loop .inv .2 ∙ law.pattern-no-dot _ _ (c .before .before .before .before .before .before .before .before .loop-test .taken) _ _ _ _ _ (sym (c .before .before .before .before .before .before .is-small .ensures) ∙ c .before .before .before .before .before .if1 .left) (sym (c .before .before .before .before .is-digit .ensures) ∙ c .before .before .before .if2 .left) (c .before .before .if4 .taken) (sym (c .before .dot-fits .ensures) ∙ not-true _ (c .if5 .taken)))
-
-add-count-2 : tie.Need-add-count-2 Inv-loop μ-loop
-add-count-2 c = search needs
-
-loop-less-3 : tie.Need-loop-less-3 Inv-loop μ-loop
-loop-less-3 c = search needs
 
 loop-again-3 : tie.Need-loop-again-3 Inv-loop μ-loop
 loop-again-3 c = (search needs, law.end-on _ _ _ (c .before .before .before .before .before .before .before .before .before .loop .inv .1) (c .before .before .before .before .before .before .before .before .loop-test .taken) (λ f. omega (arith, f, c .before .before .if4 .taken)), c .before .before .before .before .before .before .before .before .before .loop .inv .2 ∙ law.pattern-dot _ _ (c .before .before .before .before .before .before .before .before .loop-test .taken) _ _ _ _ _ (sym (c .before .before .before .before .before .before .is-small .ensures) ∙ c .before .before .before .before .before .if1 .left) (sym (c .before .before .before .before .is-digit .ensures) ∙ c .before .before .before .if2 .left) (c .before .before .if4 .taken) (sym (c .before .dot-fits .ensures) ∙ not-false _ (c .if5 .left)))
@@ -88,20 +59,20 @@ pattern-end-spec =
     Inv-loop
     μ-loop
     loop-holds
-    shared-slice-read-b
-    add-i
-    is-small-requires
-    add-count
-    loop-less
+    (λ c. search needs)
+    (λ c. search needs)
+    (λ c κs. search needs)
+    (λ c. search needs)
+    (λ c. search needs)
     loop-again
-    is-digit-requires
+    (λ c κs. search needs)
     returns
-    loop-less-2
+    (λ c. search needs)
     loop-again-2
-    dot-fits-requires
+    (λ c κs. search needs)
     returns-2
-    add-count-2
-    loop-less-3
+    (λ c. search needs)
+    (λ c. search needs)
     loop-again-3
     returns-3
     returns-4

@@ -4,17 +4,8 @@ use Rattle.lists.specs.Lists.{badPattern}
 use Rattle.lists.proofs.bad_pattern.Statement.{statement}
 use Rattle.lists.proofs.bad_pattern.Tie as tie
 
-enum-told : tie.Need-enum-told
-enum-told c = search needs
-
-enum-known-found : tie.Need-enum-known-found
-enum-known-found c = search needs
-
-returns : tie.Need-returns
-returns c = search needs
-
 returns-2 : tie.Need-returns-2
 returns-2 c = sym (ap badPattern (c .before .found .given .1))
 
 pub bad-pattern-spec : {M : Type 1} → statement M
-bad-pattern-spec = tie.close (tie.spec enum-told enum-known-found returns returns-2)
+bad-pattern-spec = tie.close (tie.spec (λ c. search needs) (λ c. search needs) (λ c. search needs) returns-2)

@@ -1,3 +1,4 @@
+-- The lines before this place are good, so the judgement is that of the lines from here on; what is left of the text falls.
 use borrow.Author.Needs.{needs}
 use Prim.Native.Nat.{_≤_, _-_}
 use mathlib.Core.Path.{_≡_, sym, _∙_}
@@ -20,26 +21,8 @@ abbrev μ-loop : tie.MeasureT-loop
 loop-holds : tie.Need-loop-holds Inv-loop μ-loop
 loop-holds c = (search needs, search needs, lines-start _ _)
 
-good-end-requires : tie.Need-good-end-requires Inv-loop μ-loop
-good-end-requires c κs = search needs
-
-enum-known-found : tie.Need-enum-known-found Inv-loop μ-loop
-enum-known-found c = search needs
-
-enum-told : tie.Need-enum-told Inv-loop μ-loop
-enum-told c = search needs
-
 returns : tie.Need-returns Inv-loop μ-loop
 returns c = sym (c .before .before .before .before .loop .inv .2 ∙ line-bad _ _ _ (c .before .before .good-end .ensures) _ (c .before .before .before .loop-test .taken) (c .enum-told .given .1))
-
-sub-ascends : tie.Need-sub-ascends Inv-loop μ-loop
-sub-ascends c = search needs
-
-part-ascends-start : tie.Need-part-ascends-start Inv-loop μ-loop
-part-ascends-start c = search needs
-
-part-ascends-end : tie.Need-part-ascends-end Inv-loop μ-loop
-part-ascends-end c = search needs
 
 sub-ascends-2 : tie.Need-sub-ascends-2 Inv-loop μ-loop
 sub-ascends-2 c = omega (arith, line-starts _ _ _ (c .before .before .before .before .before .loop-test .taken) (found-end _ _ _ (c .before .before .before .before .good-end .ensures) (c .before .before .found .given .1)))
@@ -49,9 +32,6 @@ part-ascends-start-2 c = omega (arith, line-starts _ _ _ (c .before .before .bef
 
 part-ascends-end-2 : tie.Need-part-ascends-end-2 Inv-loop μ-loop
 part-ascends-end-2 c = line-ends _ _ _ (c .before .before .before .before .before .loop-test .taken) (found-end _ _ _ (c .before .before .before .before .good-end .ensures) (c .before .before .found .given .1))
-
-ascends-requires : tie.Need-ascends-requires Inv-loop μ-loop
-ascends-requires c κs = search needs
 
 returns-2 : tie.Need-returns-2 Inv-loop μ-loop
 returns-2 c = sym (c .before .before .before .before .before .before .before .before .before .loop .inv .2 ∙ line-low _ _ _ (c .before .before .before .before .before .before .before .good-end .ensures) _ (c .before .before .before .before .before .before .before .before .loop-test .taken) (c .before .before .before .before .before .found .given .1) (sym (c .before .ascends .ensures) ∙ not-true _ (c .if1 .taken)))
@@ -72,17 +52,17 @@ judge-lines-spec =
     Inv-loop
     μ-loop
     loop-holds
-    good-end-requires
-    enum-known-found
-    enum-told
+    (λ c κs. search needs)
+    (λ c. search needs)
+    (λ c. search needs)
     returns
-    sub-ascends
-    part-ascends-start
-    part-ascends-end
+    (λ c. search needs)
+    (λ c. search needs)
+    (λ c. search needs)
     sub-ascends-2
     part-ascends-start-2
     part-ascends-end-2
-    ascends-requires
+    (λ c κs. search needs)
     returns-2
     loop-less
     loop-again

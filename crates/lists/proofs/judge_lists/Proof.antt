@@ -8,50 +8,14 @@ use Rattle.lists.proofs.Laws.{lists-size, lists-size-house, lists-custo
 use Rattle.lists.proofs.judge_lists.Statement.{statement}
 use Rattle.lists.proofs.judge_lists.Tie as tie
 
-judge-size-requires : tie.Need-judge-size-requires
-judge-size-requires c κs = search needs
-
-enum-known-size : tie.Need-enum-known-size
-enum-known-size c = search needs
-
 returns : tie.Need-returns
 returns c = said-by (lists-ordered _ _) (lists-size _ _ (judged-by (size-ordered _ _) (c .before .before .before .judge-size .ensures)) (c .before .size .given .1))
-
-enum-told : tie.Need-enum-told
-enum-told c = search needs
-
-judge-size-requires-2 : tie.Need-judge-size-requires-2
-judge-size-requires-2 c κs = search needs
-
-enum-known-size2 : tie.Need-enum-known-size2
-enum-known-size2 c = search needs
 
 returns-2 : tie.Need-returns-2
 returns-2 c = said-by (lists-ordered _ _) (lists-size-house _ _ (judged-by (size-ordered _ _) (c .before .before .before .before .before .before .judge-size .ensures)) (c .before .before .before .before .enum-told .given .1) (judged-by (size-ordered _ _) (c .before .before .before .judge-size2 .ensures)) (c .before .size2 .given .1))
 
-enum-told-2 : tie.Need-enum-told-2
-enum-told-2 c = search needs
-
-judge-lines-requires : tie.Need-judge-lines-requires
-judge-lines-requires c κs = search needs
-
-bad-exception-requires : tie.Need-bad-exception-requires
-bad-exception-requires c κs = search needs
-
-enum-known-own : tie.Need-enum-known-own
-enum-known-own c = search needs
-
 returns-3 : tie.Need-returns-3
 returns-3 c = said-by (lists-ordered _ _) (lists-customer _ _ (judged-by (size-ordered _ _) (c .before .before .before .before .before .before .before .before .before .before .judge-size .ensures)) (c .before .before .before .before .before .before .before .before .enum-told .given .1) (judged-by (size-ordered _ _) (c .before .before .before .before .before .before .before .judge-size2 .ensures)) (c .before .before .before .before .before .enum-told2 .given .1) (sym (c .before .before .before .bad-exception .ensures ∙ ap (badException customerList) (c .before .before .before .before .judge-lines .ensures)) ∙ c .before .own .given .1))
-
-enum-told-3 : tie.Need-enum-told-3
-enum-told-3 c = search needs
-
-judge-lines-requires-2 : tie.Need-judge-lines-requires-2
-judge-lines-requires-2 c κs = search needs
-
-bad-exception-requires-2 : tie.Need-bad-exception-requires-2
-bad-exception-requires-2 c κs = search needs
 
 returns-4 : tie.Need-returns-4
 returns-4 c = said-by (lists-ordered _ _) (c .bad-exception2 .ensures ∙ ap (badException houseList) (c .before .judge-lines2 .ensures) ∙ lists-house _ _ (judged-by (size-ordered _ _) (c .before .before .before .before .before .before .before .before .before .before .before .judge-size .ensures)) (c .before .before .before .before .before .before .before .before .before .enum-told .given .1) (judged-by (size-ordered _ _) (c .before .before .before .before .before .before .before .before .judge-size2 .ensures)) (c .before .before .before .before .before .before .enum-told2 .given .1) (sym (c .before .before .before .before .bad-exception .ensures ∙ ap (badException customerList) (c .before .before .before .before .before .judge-lines .ensures)) ∙ c .before .before .enum-told3 .given .1))
@@ -60,19 +24,19 @@ pub judge-lists-spec : {M : Type 1} → statement M
 judge-lists-spec =
     tie.close
     (tie.spec
-    judge-size-requires
-    enum-known-size
+    (λ c κs. search needs)
+    (λ c. search needs)
     returns
-    enum-told
-    judge-size-requires-2
-    enum-known-size2
+    (λ c. search needs)
+    (λ c κs. search needs)
+    (λ c. search needs)
     returns-2
-    enum-told-2
-    judge-lines-requires
-    bad-exception-requires
-    enum-known-own
+    (λ c. search needs)
+    (λ c κs. search needs)
+    (λ c κs. search needs)
+    (λ c. search needs)
     returns-3
-    enum-told-3
-    judge-lines-requires-2
-    bad-exception-requires-2
+    (λ c. search needs)
+    (λ c κs. search needs)
+    (λ c κs. search needs)
     returns-4)

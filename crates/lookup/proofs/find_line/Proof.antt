@@ -1,3 +1,4 @@
+-- The word is in no line before this place, so it is found where the rest has it; what is left of the text falls.
 use borrow.Author.Needs.{needs}
 use Prim.Native.Nat.{_≤_, _-_}
 use mathlib.Core.Path.{_≡_, sym, _∙_}
@@ -20,9 +21,6 @@ abbrev μ-loop : tie.MeasureT-loop
 loop-holds : tie.Need-loop-holds Inv-loop μ-loop
 loop-holds c = (search needs, find-start _ _)
 
-line-end-requires : tie.Need-line-end-requires Inv-loop μ-loop
-line-end-requires c κs = search needs
-
 sub-is-line-of : tie.Need-sub-is-line-of Inv-loop μ-loop
 sub-is-line-of c = omega (arith, line-starts _ _ _ (c .before .loop-test .taken) (c .line-end .ensures))
 
@@ -31,9 +29,6 @@ part-is-line-of-start c = omega (arith, line-starts _ _ _ (c .before .loop-test 
 
 part-is-line-of-end : tie.Need-part-is-line-of-end Inv-loop μ-loop
 part-is-line-of-end c = line-ends _ _ _ (c .before .loop-test .taken) (c .line-end .ensures)
-
-is-line-of-requires : tie.Need-is-line-of-requires Inv-loop μ-loop
-is-line-of-requires c κs = search needs
 
 sub-t11 : tie.Need-sub-t11 Inv-loop μ-loop
 sub-t11 c = omega (arith, line-starts _ _ _ (c .before .before .before .before .loop-test .taken) (c .before .before .before .line-end .ensures))
@@ -57,11 +52,11 @@ find-line-spec =
     Inv-loop
     μ-loop
     loop-holds
-    line-end-requires
+    (λ c κs. search needs)
     sub-is-line-of
     part-is-line-of-start
     part-is-line-of-end
-    is-line-of-requires
+    (λ c κs. search needs)
     sub-t11
     returns
     loop-less

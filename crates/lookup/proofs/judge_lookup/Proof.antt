@@ -8,20 +8,8 @@ use Rattle.lookup.proofs.Laws.{lookup-word, lookup-lists}
 use Rattle.lookup.proofs.judge_lookup.Statement.{statement}
 use Rattle.lookup.proofs.judge_lookup.Tie as tie
 
-judge-word-requires : tie.Need-judge-word-requires
-judge-word-requires c κs = search needs
-
-enum-known-own : tie.Need-enum-known-own
-enum-known-own c = search needs
-
 returns : tie.Need-returns
 returns c = said-by (lookup-ordered _ _ _) (lookup-word _ _ _ (judged-by (word-ordered _ _) (c .before .before .before .judge-word .ensures)) (c .before .own .given .1))
-
-enum-told : tie.Need-enum-told
-enum-told c = search needs
-
-judge-lists-requires : tie.Need-judge-lists-requires
-judge-lists-requires c κs = search needs
 
 returns-2 : tie.Need-returns-2
 returns-2 c = said-by (lookup-ordered _ _ _) (judged-by (lists-ordered _ _) (c .judge-lists .ensures) ∙ lookup-lists _ _ _ (judged-by (word-ordered _ _) (c .before .before .before .judge-word .ensures)) (c .before .enum-told .given .1))
@@ -29,4 +17,4 @@ returns-2 c = said-by (lookup-ordered _ _ _) (judged-by (lists-ordered _ _) (c .
 pub judge-lookup-spec : {M : Type 1} → statement M
 judge-lookup-spec =
     tie.close
-    (tie.spec judge-word-requires enum-known-own returns enum-told judge-lists-requires returns-2)
+    (tie.spec (λ c κs. search needs) (λ c. search needs) returns (λ c. search needs) (λ c κs. search needs) returns-2)

@@ -6,12 +6,6 @@ use Rattle.lookup.proofs.Laws.{located-customer, located-house}
 use Rattle.lookup.proofs.lookup.Statement.{statement}
 use Rattle.lookup.proofs.lookup.Tie as tie
 
-locate-line-requires : tie.Need-locate-line-requires
-locate-line-requires c κs = search needs
-
-enum-known-at : tie.Need-enum-known-at
-enum-known-at c = search needs
-
 sub-result : tie.Need-sub-result
 sub-result c = located-customer _ _ _ (sym (located-by _ _ _ (c .before .before .before .locate-line .ensures)) ∙ c .before .at .given .1) .starts
 
@@ -21,9 +15,6 @@ part-result-start c = located-customer _ _ _ (sym (located-by _ _ _ (c .before .
 part-result-end : tie.Need-part-result-end
 part-result-end c = located-customer _ _ _ (sym (located-by _ _ _ (c .before .before .before .locate-line .ensures)) ∙ c .before .at .given .1) .ends
 
-enum-known-at-2 : tie.Need-enum-known-at-2
-enum-known-at-2 c = search needs
-
 sub-result-2 : tie.Need-sub-result-2
 sub-result-2 c = located-house _ _ _ (sym (located-by _ _ _ (c .before .before .before .locate-line .ensures)) ∙ c .before .at2 .given .1) .starts
 
@@ -32,12 +23,6 @@ part-result-start-2 c = located-house _ _ _ (sym (located-by _ _ _ (c .before .b
 
 part-result-end-2 : tie.Need-part-result-end-2
 part-result-end-2 c = located-house _ _ _ (sym (located-by _ _ _ (c .before .before .before .locate-line .ensures)) ∙ c .before .at2 .given .1) .ends
-
-enum-told : tie.Need-enum-told
-enum-told c = search needs
-
-slice-aggregate-result : tie.Need-slice-aggregate-result
-slice-aggregate-result c = search needs
 
 returns : tie.Need-returns
 returns c = (sym (ap (lineOf _ _) (sym (located-by _ _ _ (c .before .before .before .before .locate-line .ensures)) ∙ c .before .before .at .given .1)), sym (ap (placeOf _ _) (sym (located-by _ _ _ (c .before .before .before .before .locate-line .ensures)) ∙ c .before .before .at .given .1)))
@@ -52,17 +37,17 @@ pub lookup-spec : {M : Type 1} → statement M
 lookup-spec =
     tie.close
     (tie.spec
-    locate-line-requires
-    enum-known-at
+    (λ c κs. search needs)
+    (λ c. search needs)
     sub-result
     part-result-start
     part-result-end
-    enum-known-at-2
+    (λ c. search needs)
     sub-result-2
     part-result-start-2
     part-result-end-2
-    enum-told
-    slice-aggregate-result
+    (λ c. search needs)
+    (λ c. search needs)
     returns
     returns-2
     returns-3)

@@ -1,15 +1,17 @@
+-- The cells from `n` on have their kind; `n` falls.
 use borrow.Author.Needs.{needs}
 use Prim.Native.Nat.{_≤_, _*_, _-_}
 use mathlib.Core.Path.{_≡_, refl, sym, _∙_}
-use native.Mathlib.Omega.{arith}
 use lib.ListN.{length, length-set}
+use Rattle.base.specs.Limits.{cellLimit}
+use Rattle.table.specs.Table.{cellSize}
 use Rattle.fit.specs.Table.{putKinds}
 use Rattle.packer.proofs.Laws.{kinds-turn, kinds-end}
 use Rattle.packer.proofs.put_kinds.Statement.{statement}
 use Rattle.packer.proofs.put_kinds.Tie as tie
 
 abbrev Inv-loop : tie.InvT-loop
-Inv-loop cells₀ count n₀ cells n = (n ≤ count) × (6 * count ≤ length cells₀) × (count ≤ 8192) × (length cells ≡ length cells₀) × (putKinds count cells₀ ≡ putKinds n cells)
+Inv-loop cells₀ count n₀ cells n = (n ≤ count) × (cellSize * count ≤ length cells₀) × (count ≤ cellLimit) × (length cells ≡ length cells₀) × (putKinds count cells₀ ≡ putKinds n cells)
 
 abbrev μ-loop : tie.MeasureT-loop
 μ-loop cells₀ count n₀ cells n = n
@@ -17,23 +19,8 @@ abbrev μ-loop : tie.MeasureT-loop
 loop-holds : tie.Need-loop-holds Inv-loop μ-loop
 loop-holds c = (search needs, search needs, search needs, refl, refl)
 
-sub-n : tie.Need-sub-n Inv-loop μ-loop
-sub-n c = search needs
-
-mul-cells : tie.Need-mul-cells Inv-loop μ-loop
-mul-cells c = search needs
-
-slice-write-cells : tie.Need-slice-write-cells Inv-loop μ-loop
-slice-write-cells c = search needs
-
-loop-less : tie.Need-loop-less Inv-loop μ-loop
-loop-less c = search needs
-
 loop-again : tie.Need-loop-again Inv-loop μ-loop
 loop-again c = (search needs, search needs, search needs, simp length-set (c .before .loop .inv .3), c .before .loop .inv .4 ∙ kinds-turn (c .before .loop .n) (c .before .loop .cells) (c .loop-test .taken))
-
-same-length : tie.Need-same-length Inv-loop μ-loop
-same-length c = search needs
 
 returns : tie.Need-returns Inv-loop μ-loop
 returns c = sym (c .before .loop .inv .4 ∙ kinds-end (c .before .loop .n) (c .before .loop .cells) (c .loop-test .left))
@@ -45,10 +32,10 @@ put-kinds-spec =
     Inv-loop
     μ-loop
     loop-holds
-    sub-n
-    mul-cells
-    slice-write-cells
-    loop-less
+    (λ c. search needs)
+    (λ c. search needs)
+    (λ c. search needs)
+    (λ c. search needs)
     loop-again
-    same-length
+    (λ c. search needs)
     returns)

@@ -1,12 +1,15 @@
+-- The patterns before `at` have their outputs, and those from there on are well formed; the text's length less `at` falls.
 use borrow.Author.Needs.{needs}
 use Prim.Native.Nat.{_≤_, _-_}
 use mathlib.Core.List.{map}
 use mathlib.Core.Path.{_≡_, refl, sym, _∙_, ap, subst}
 use native.Mathlib.Omega.{arith}
 use lib.ListN.{length, drop}
+use Rattle.base.specs.Limits.{entryLimit}
 use Rattle.lines.specs.Lines.{cut}
 use Rattle.lines.proofs.Laws.{line-starts, line-ends}
 use Rattle.liang.specs.Patterns.{patternOf, patternsOf}
+use Rattle.table.specs.Table.{entryRoom}
 use Rattle.fit.specs.Entries as fit
 use Rattle.fit.specs.Entries.{outputsOf}
 use Rattle.entering.specs.Post.{asEntries, countOf}
@@ -15,16 +18,13 @@ use Rattle.packer.proofs.put_outputs.Statement.{statement}
 use Rattle.packer.proofs.put_outputs.Tie as tie
 
 abbrev Inv-loop : tie.InvT-loop
-Inv-loop cells₀ made₀ text count₀ at₀ cells made count at = (at ≤ length text) × (length made ≡ 10240) × (length made₀ ≡ 10240) × (length cells ≡ length cells₀) × (count ≤ 2048) × AllShaped (map patternOf (cut (drop at text))) × (outputsOf (patternsOf text) (fit.Out cells₀ made₀ 0) ≡ outputsOf (map patternOf (cut (drop at text))) (fit.Out cells made count))
+Inv-loop cells₀ made₀ count root text entries₀ at₀ cells made entries at = (at ≤ length text) × (length made ≡ entryRoom) × (length made₀ ≡ entryRoom) × (length cells ≡ length cells₀) × (entries ≤ entryLimit) × AllShaped (map patternOf (cut (drop at text))) × (outputsOf root (patternsOf text) (fit.Out cells₀ made₀ count) ≡ outputsOf root (map patternOf (cut (drop at text))) (fit.Out cells made entries))
 
 abbrev μ-loop : tie.MeasureT-loop
-μ-loop cells₀ made₀ text count₀ at₀ cells made count at = length text - at
+μ-loop cells₀ made₀ count root text entries₀ at₀ cells made entries at = length text - at
 
 loop-holds : tie.Need-loop-holds Inv-loop μ-loop
-loop-holds c = (search needs, c .before .before .before .pre .0, c .before .before .before .pre .0, refl, search needs, shaped-start _ (c .before .before .before .pre .1), outputs-start _ _ _)
-
-line-end-requires : tie.Need-line-end-requires Inv-loop μ-loop
-line-end-requires c κs = search needs
+loop-holds c = (search needs, c .before .before .before .pre .0, c .before .before .before .pre .0, refl, search needs, shaped-start _ (c .before .before .before .pre .2), outputs-start _ _ _)
 
 sub-symbol-count : tie.Need-sub-symbol-count Inv-loop μ-loop
 sub-symbol-count c = omega (arith, line-starts _ _ _ (c .before .loop-test .taken) (c .line-end .ensures))
@@ -34,9 +34,6 @@ part-symbol-count-start c = omega (arith, line-starts _ _ _ (c .before .loop-tes
 
 part-symbol-count-end : tie.Need-part-symbol-count-end Inv-loop μ-loop
 part-symbol-count-end c = line-ends _ _ _ (c .before .loop-test .taken) (c .line-end .ensures)
-
-symbol-count-requires : tie.Need-symbol-count-requires Inv-loop μ-loop
-symbol-count-requires c κs = search needs
 
 cast-m : tie.Need-cast-m Inv-loop μ-loop
 cast-m c = omega (arith, c .symbol-count .ensures, line-shaped _ _ _ (c .before .before .before .loop-test .taken) (c .before .before .line-end .ensures) (c .before .before .before .before .loop .inv .5))
@@ -53,12 +50,6 @@ part-enter-levels-end c = line-ends _ _ _ (c .before .before .before .before .lo
 enter-levels-requires : tie.Need-enter-levels-requires Inv-loop μ-loop
 enter-levels-requires c κs = (c .before .before .before .before .before .before .loop .inv .1, c .before .before .before .before .before .before .loop .inv .4, omega (arith, c .before .before .symbol-count .ensures, line-shaped _ _ _ (c .before .before .before .before .before .loop-test .taken) (c .before .before .before .before .line-end .ensures) (c .before .before .before .before .before .before .loop .inv .5)))
 
-enum-known-step : tie.Need-enum-known-step Inv-loop μ-loop
-enum-known-step c = search needs
-
-enum-told : tie.Need-enum-told Inv-loop μ-loop
-enum-told c = search needs
-
 same-length : tie.Need-same-length Inv-loop μ-loop
 same-length c = c .before .before .before .before .before .before .before .before .before .before .before .loop .inv .3
 
@@ -66,7 +57,7 @@ same-length-2 : tie.Need-same-length-2 Inv-loop μ-loop
 same-length-2 c = c .before .before .before .before .enter-levels .kept .0 ∙ c .before .before .before .before .before .before .before .before .before .before .before .loop .inv .1 ∙ sym (c .before .before .before .before .before .before .before .before .before .before .before .loop .inv .2)
 
 returns : tie.Need-returns Inv-loop μ-loop
-returns c = (c .before .before .before .before .before .before .before .before .before .before .before .loop .inv .6 ∙ outputs-many _ _ _ (c .before .before .before .before .before .before .before .before .before .before .loop-test .taken) (c .before .before .before .before .before .before .before .before .before .line-end .ensures) _ _ _ _ (c .before .before .before .before .before .before .before .symbol-count .ensures) (c .before .before .before .before .enter-levels .ensures .0 ∙ ap (asEntries _) (c .enum-told .given .1)) refl, search needs)
+returns c = (c .before .before .before .before .before .before .before .before .before .before .before .loop .inv .6 ∙ outputs-many _ _ _ (c .before .before .before .before .before .before .before .before .before .before .loop-test .taken) (c .before .before .before .before .before .before .before .before .before .line-end .ensures) _ _ _ _ _ (c .before .before .before .before .before .before .before .symbol-count .ensures) (c .before .before .before .before .enter-levels .ensures .0 ∙ ap (asEntries _) (c .enum-told .given .1)) refl, search needs)
 
 sub-put-output : tie.Need-sub-put-output Inv-loop μ-loop
 sub-put-output c = omega (arith, line-starts _ _ _ (c .before .before .before .before .before .before .before .before .before .before .before .before .loop-test .taken) (c .before .before .before .before .before .before .before .before .before .before .before .line-end .ensures))
@@ -89,9 +80,9 @@ loop-again c = (
   c .before .before .before .before .before .before .before .before .before .before .enter-levels .kept .0 ∙ c .before .before .before .before .before .before .before .before .before .before .before .before .before .before .before .before .before .loop .inv .1,
   c .before .before .before .before .before .before .before .before .before .before .before .before .before .before .before .before .before .loop .inv .2,
   c .before .before .put-output .kept .0 ∙ c .before .before .before .before .before .before .before .before .before .before .before .before .before .before .before .before .before .loop .inv .3,
-  subst (λ e. countOf e ≤ 2048) (c .before .before .before .before .before .before .step .given .1) (c .before .before .before .before .before .before .before .before .before .before .enter-levels .ensures .1 .0),
+  subst (λ e. countOf e ≤ entryLimit) (c .before .before .before .before .before .before .step .given .1) (c .before .before .before .before .before .before .before .before .before .before .enter-levels .ensures .1 .0),
   shaped-on _ _ _ (c .before .before .before .before .before .before .before .before .before .before .before .before .before .before .before .before .loop-test .taken) (c .before .before .before .before .before .before .before .before .before .before .before .before .before .before .before .line-end .ensures) (c .before .before .before .before .before .before .before .before .before .before .before .before .before .before .before .before .before .loop .inv .5),
-  c .before .before .before .before .before .before .before .before .before .before .before .before .before .before .before .before .before .loop .inv .6 ∙ outputs-on _ _ _ (c .before .before .before .before .before .before .before .before .before .before .before .before .before .before .before .before .loop-test .taken) (c .before .before .before .before .before .before .before .before .before .before .before .before .before .before .before .line-end .ensures) _ _ _ _ (c .before .before .before .before .before .before .before .before .before .before .before .before .before .symbol-count .ensures) (c .before .before .before .before .before .before .before .before .before .before .enter-levels .ensures .0 ∙ ap (asEntries _) (c .before .before .before .before .before .before .step .given .1)) refl (c .before .before .put-output .ensures),
+  c .before .before .before .before .before .before .before .before .before .before .before .before .before .before .before .before .before .loop .inv .6 ∙ outputs-on _ _ _ (c .before .before .before .before .before .before .before .before .before .before .before .before .before .before .before .before .loop-test .taken) (c .before .before .before .before .before .before .before .before .before .before .before .before .before .before .before .line-end .ensures) _ _ _ _ _ (c .before .before .before .before .before .before .before .before .before .before .before .before .before .symbol-count .ensures) (c .before .before .before .before .before .before .before .before .before .before .enter-levels .ensures .0 ∙ ap (asEntries _) (c .before .before .before .before .before .before .step .given .1)) refl (c .before .before .put-output .ensures),
 )
 
 same-length-3 : tie.Need-same-length-3 Inv-loop μ-loop
@@ -101,7 +92,7 @@ same-length-4 : tie.Need-same-length-4 Inv-loop μ-loop
 same-length-4 c = c .before .loop .inv .1 ∙ sym (c .before .loop .inv .2)
 
 returns-2 : tie.Need-returns-2 Inv-loop μ-loop
-returns-2 c = (c .before .loop .inv .6 ∙ outputs-end _ _ _ (c .loop-test .left), c .before .loop .inv .4)
+returns-2 c = (c .before .loop .inv .6 ∙ outputs-end _ _ _ _ (c .loop-test .left), c .before .loop .inv .4)
 
 pub put-outputs-spec : {M : Type 1} → statement M
 put-outputs-spec =
@@ -110,18 +101,18 @@ put-outputs-spec =
     Inv-loop
     μ-loop
     loop-holds
-    line-end-requires
+    (λ c κs. search needs)
     sub-symbol-count
     part-symbol-count-start
     part-symbol-count-end
-    symbol-count-requires
+    (λ c κs. search needs)
     cast-m
     sub-enter-levels
     part-enter-levels-start
     part-enter-levels-end
     enter-levels-requires
-    enum-known-step
-    enum-told
+    (λ c. search needs)
+    (λ c. search needs)
     same-length
     same-length-2
     returns

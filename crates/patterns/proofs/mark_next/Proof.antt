@@ -1,5 +1,6 @@
+-- The mask with the marks so far, gone on with by the lines from here on, is the whole mask; what is left of the text falls.
 use borrow.Author.Needs.{needs}
-use Prim.Native.Nat.{_≤_, _-_}
+use Prim.Native.Nat.{_-_}
 use mathlib.Core.List.{map}
 use mathlib.Core.Path.{_≡_, refl, sym, _∙_}
 use native.Mathlib.Omega.{arith}
@@ -22,9 +23,6 @@ abbrev μ-loop : tie.MeasureT-loop
 loop-holds : tie.Need-loop-holds Inv-loop μ-loop
 loop-holds c = (refl, refl)
 
-line-end-requires : tie.Need-line-end-requires Inv-loop μ-loop
-line-end-requires c κs = search needs
-
 sub-shared : tie.Need-sub-shared Inv-loop μ-loop
 sub-shared c = omega (arith, line-starts _ _ _ (c .before .loop-test .taken) (c .line-end .ensures))
 
@@ -33,12 +31,6 @@ part-shared-start c = omega (arith, line-starts _ _ _ (c .before .loop-test .tak
 
 part-shared-end : tie.Need-part-shared-end Inv-loop μ-loop
 part-shared-end c = line-ends _ _ _ (c .before .loop-test .taken) (c .line-end .ensures)
-
-shared-requires : tie.Need-shared-requires Inv-loop μ-loop
-shared-requires c κs = search needs
-
-same-length : tie.Need-same-length Inv-loop μ-loop
-same-length c = search needs
 
 returns : tie.Need-returns Inv-loop μ-loop
 returns c = next-other _ _ _ _ _ _ (c .before .before .before .before .loop-test .taken) (c .before .before .before .line-end .ensures) (c .before .shared .ensures) (c .if1 .taken) ∙ sym (c .before .before .before .before .before .loop .inv .1)
@@ -52,20 +44,11 @@ part-symbol-at-start c = omega (arith, line-starts _ _ _ (c .before .before .bef
 part-symbol-at-end : tie.Need-part-symbol-at-end Inv-loop μ-loop
 part-symbol-at-end c = line-ends _ _ _ (c .before .before .before .before .before .loop-test .taken) (c .before .before .before .before .line-end .ensures)
 
-symbol-at-requires : tie.Need-symbol-at-requires Inv-loop μ-loop
-symbol-at-requires c κs = search needs
-
-mark-requires : tie.Need-mark-requires Inv-loop μ-loop
-mark-requires c κs = search needs
-
 loop-less : tie.Need-loop-less Inv-loop μ-loop
 loop-less c = omega (arith, line-starts _ _ _ (c .before .before .before .before .before .before .before .before .before .before .loop-test .taken) (c .before .before .before .before .before .before .before .before .before .line-end .ensures))
 
 loop-again : tie.Need-loop-again Inv-loop μ-loop
-loop-again c = (c .before .before .mark .kept .0 ∙ c .before .before .before .before .before .before .before .before .before .before .before .loop .inv .0, c .before .before .before .before .before .before .before .before .before .before .before .loop .inv .1 ∙ next-mark _ _ _ _ _ _ (c .before .before .before .before .before .before .before .before .before .before .loop-test .taken) (c .before .before .before .before .before .before .before .before .before .line-end .ensures) (c .before .before .before .before .before .before .before .shared .ensures) (c .before .before .before .before .before .before .if1 .left) (c .before .before .before .symbol-at .ensures) (c .before .before .mark .ensures))
-
-same-length-2 : tie.Need-same-length-2 Inv-loop μ-loop
-same-length-2 c = search needs
+loop-again c = (c .before .before .mark-symbol .kept .0 ∙ c .before .before .before .before .before .before .before .before .before .before .before .loop .inv .0, c .before .before .before .before .before .before .before .before .before .before .before .loop .inv .1 ∙ next-mark _ _ _ _ _ _ (c .before .before .before .before .before .before .before .before .before .before .loop-test .taken) (c .before .before .before .before .before .before .before .before .before .line-end .ensures) (c .before .before .before .before .before .before .before .shared .ensures) (c .before .before .before .before .before .before .if1 .left) (c .before .before .before .symbol-at .ensures) (c .before .before .mark-symbol .ensures))
 
 returns-2 : tie.Need-returns-2 Inv-loop μ-loop
 returns-2 c = sym (c .before .loop .inv .1 ∙ next-end _ _ _ _ _ (c .loop-test .left))
@@ -77,19 +60,19 @@ mark-next-spec =
     Inv-loop
     μ-loop
     loop-holds
-    line-end-requires
+    (λ c κs. search needs)
     sub-shared
     part-shared-start
     part-shared-end
-    shared-requires
-    same-length
+    (λ c κs. search needs)
+    (λ c. search needs)
     returns
     sub-symbol-at
     part-symbol-at-start
     part-symbol-at-end
-    symbol-at-requires
-    mark-requires
+    (λ c κs. search needs)
+    (λ c κs. search needs)
     loop-less
     loop-again
-    same-length-2
+    (λ c. search needs)
     returns-2)

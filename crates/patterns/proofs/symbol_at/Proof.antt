@@ -1,6 +1,7 @@
+-- The symbol asked for is that of the rest, after as many as are still left; what is left of the line falls.
 use borrow.Author.Needs.{needs}
 use Prim.Native.Nat.{ℕ, _≤_, _+_, _-_}
-use mathlib.Core.List.{List, []}
+use mathlib.Core.List.{List}
 use mathlib.Core.Path.{_≡_, refl, sym, _∙_, ap}
 use lib.ListN.{length, getD, drop}
 use Rattle.words.specs.Symbols.{symbolsOf}
@@ -19,29 +20,11 @@ abbrev μ-loop : tie.MeasureT-loop
 loop-holds : tie.Need-loop-holds Inv-loop μ-loop
 loop-holds c = (search needs, refl)
 
-shared-slice-read-symbol-of : tie.Need-shared-slice-read-symbol-of Inv-loop μ-loop
-shared-slice-read-symbol-of c = search needs
-
-symbol-of-requires : tie.Need-symbol-of-requires Inv-loop μ-loop
-symbol-of-requires c κs = search needs
-
-add-i : tie.Need-add-i Inv-loop μ-loop
-add-i c = search needs
-
 returns : tie.Need-returns Inv-loop μ-loop
 returns c = sym (c .before .before .before .before .before .loop .inv .1 ∙ ap (λ (l : List ℕ). getD l (c .before .before .before .before .before .loop .left) 0) (rest-keep (c .before .before .before .before .before .before .before .args .line .now) (c .before .before .before .before .before .loop .i) (c .before .before .before .before .loop-test .taken) (c .before .before .symbol-of .ensures) (c .before .if1 .taken)) ∙ rw (c .if2 .taken))
 
-sub-left : tie.Need-sub-left Inv-loop μ-loop
-sub-left c = search needs
-
-loop-less : tie.Need-loop-less Inv-loop μ-loop
-loop-less c = search needs
-
 loop-again : tie.Need-loop-again Inv-loop μ-loop
 loop-again c = (search needs, c .before .before .before .before .before .loop .inv .1 ∙ ap (λ (l : List ℕ). getD l (c .before .before .before .before .before .loop .left) 0) (rest-keep (c .before .before .before .before .before .before .before .args .line .now) (c .before .before .before .before .before .loop .i) (c .before .before .before .before .loop-test .taken) (c .before .before .symbol-of .ensures) (c .before .if1 .taken)) ∙ getD-pred _ (symbolsOf (drop (c .before .before .before .before .before .loop .i + 1) (c .before .before .before .before .before .before .before .args .line .now))) (c .before .before .before .before .before .loop .left) (c .if2 .left))
-
-loop-less-2 : tie.Need-loop-less-2 Inv-loop μ-loop
-loop-less-2 c = search needs
 
 loop-again-2 : tie.Need-loop-again-2 Inv-loop μ-loop
 loop-again-2 c = (search needs, c .before .before .before .before .loop .inv .1 ∙ ap (λ (l : List ℕ). getD l (c .before .before .before .before .loop .left) 0) (rest-skip (c .before .before .before .before .before .before .args .line .now) (c .before .before .before .before .loop .i) (c .before .before .before .loop-test .taken) (c .before .symbol-of .ensures) (c .if1 .left)))
@@ -56,13 +39,13 @@ symbol-at-spec =
     Inv-loop
     μ-loop
     loop-holds
-    shared-slice-read-symbol-of
-    symbol-of-requires
-    add-i
+    (λ c. search needs)
+    (λ c κs. search needs)
+    (λ c. search needs)
     returns
-    sub-left
-    loop-less
+    (λ c. search needs)
+    (λ c. search needs)
     loop-again
-    loop-less-2
+    (λ c. search needs)
     loop-again-2
     returns-2)

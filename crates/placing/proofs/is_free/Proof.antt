@@ -4,24 +4,12 @@ use Rattle.placing.proofs.Laws.{free-past, free-byte}
 use Rattle.placing.proofs.is_free.Statement.{statement}
 use Rattle.placing.proofs.is_free.Tie as tie
 
-add-at : tie.Need-add-at
-add-at c = search needs
-
-mul-at : tie.Need-mul-at
-mul-at c = search needs
-
-add-at-2 : tie.Need-add-at-2
-add-at-2 c = search needs
-
 returns : tie.Need-returns
 returns c = free-past (c .before .args .cells .now) (c .before .args .base + c .before .args .symbol) (c .if1 .taken)
-
-shared-slice-read-result : tie.Need-shared-slice-read-result
-shared-slice-read-result c = search needs
 
 returns-2 : tie.Need-returns-2
 returns-2 c = free-byte (c .before .before .args .cells .now) (c .before .before .args .base + c .before .before .args .symbol)
 
 pub is-free-spec : {M : Type 1} → statement M
 is-free-spec =
-    tie.close (tie.spec add-at mul-at add-at-2 returns shared-slice-read-result returns-2)
+    tie.close (tie.spec (λ c. search needs) (λ c. search needs) (λ c. search needs) returns (λ c. search needs) returns-2)

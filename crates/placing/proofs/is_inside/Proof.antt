@@ -1,12 +1,13 @@
+-- The marked symbols below `symbol` have cells below the limit; the number of symbols left falls.
 use borrow.Author.Needs.{needs}
-use Prim.Native.Nat.{_≤_, _<_, _+_, _-_}
+use Prim.Native.Nat.{suc, _≤_, _<_, _+_, _-_}
 use mathlib.Core.Bool.{not, _||_}
 use mathlib.Core.Path.{_≡_, sym, _∙_}
 use native.Mathlib.Omega.{arith}
 use borrow.Author.Tests.{not-true, not-false}
 use lib.Dec.{ltb}
 use lib.ListN.{length}
-use Rattle.base.specs.Limits.{symbols}
+use Rattle.base.specs.Limits.{symbolLimit, cellLimit}
 use Rattle.base.specs.Tests.{allFrom}
 use Rattle.base.proofs.All.{all-pass, all-fail, all-end}
 use Rattle.fit.specs.Cells.{inside}
@@ -16,37 +17,22 @@ use Rattle.placing.proofs.is_inside.Statement.{statement}
 use Rattle.placing.proofs.is_inside.Tie as tie
 
 abbrev Inv-loop : tie.InvT-loop
-Inv-loop mask base symbol₀ symbol = (symbol ≤ 28) × (symbols < length mask) × (inside (marked mask) base ≡ allFrom (λ s. not (marked mask s) || ltb (base + s) 8192) symbol (28 - symbol))
+Inv-loop mask base symbol₀ symbol = (symbol ≤ suc symbolLimit) × (symbolLimit < length mask) × (inside (marked mask) base ≡ allFrom (λ s. not (marked mask s) || ltb (base + s) cellLimit) symbol (suc symbolLimit - symbol))
 
 abbrev μ-loop : tie.MeasureT-loop
-μ-loop mask base symbol₀ symbol = 28 - symbol
+μ-loop mask base symbol₀ symbol = suc symbolLimit - symbol
 
 loop-holds : tie.Need-loop-holds Inv-loop μ-loop
 loop-holds c = (search needs, search needs, inside-start _ _)
 
-cast-is-below : tie.Need-cast-is-below Inv-loop μ-loop
-cast-is-below c = search needs
-
-shared-slice-read-is-below : tie.Need-shared-slice-read-is-below Inv-loop μ-loop
-shared-slice-read-is-below c = search needs
-
-is-below-requires : tie.Need-is-below-requires Inv-loop μ-loop
-is-below-requires c κs = search needs
-
 returns : tie.Need-returns Inv-loop μ-loop
-returns c = sym (c .before .before .before .before .loop .inv .2 ∙ all-fail _ _ 28 (omega arith) (sym (c .before .is-below .ensures) ∙ not-true _ (c .if1 .taken)))
-
-add-symbol : tie.Need-add-symbol Inv-loop μ-loop
-add-symbol c = search needs
-
-loop-less : tie.Need-loop-less Inv-loop μ-loop
-loop-less c = search needs
+returns c = sym (c .before .before .before .before .loop .inv .2 ∙ all-fail _ _ (suc symbolLimit) (omega arith) (sym (c .before .is-below .ensures) ∙ not-true _ (c .if1 .taken)))
 
 loop-again : tie.Need-loop-again Inv-loop μ-loop
-loop-again c = (search needs, search needs, c .before .before .before .before .loop .inv .2 ∙ all-pass _ _ 28 (omega arith) (sym (c .before .is-below .ensures) ∙ not-false _ (c .if1 .left)))
+loop-again c = (search needs, search needs, c .before .before .before .before .loop .inv .2 ∙ all-pass _ _ (suc symbolLimit) (omega arith) (sym (c .before .is-below .ensures) ∙ not-false _ (c .if1 .left)))
 
 returns-2 : tie.Need-returns-2 Inv-loop μ-loop
-returns-2 c = sym (c .before .loop .inv .2 ∙ all-end _ _ 28 (omega arith))
+returns-2 c = sym (c .before .loop .inv .2 ∙ all-end _ _ (suc symbolLimit) (omega arith))
 
 pub is-inside-spec : {M : Type 1} → statement M
 is-inside-spec =
@@ -55,11 +41,11 @@ is-inside-spec =
     Inv-loop
     μ-loop
     loop-holds
-    cast-is-below
-    shared-slice-read-is-below
-    is-below-requires
+    (λ c. search needs)
+    (λ c. search needs)
+    (λ c κs. search needs)
     returns
-    add-symbol
-    loop-less
+    (λ c. search needs)
+    (λ c. search needs)
     loop-again
     returns-2)

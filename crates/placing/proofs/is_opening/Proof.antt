@@ -4,20 +4,11 @@ use Rattle.placing.proofs.Laws.{opens-short, opens-apart, opens-behind}
 use Rattle.placing.proofs.is_opening.Statement.{statement}
 use Rattle.placing.proofs.is_opening.Tie as tie
 
-symbol-count-requires : tie.Need-symbol-count-requires
-symbol-count-requires c κs = search needs
-
 returns : tie.Need-returns
 returns c = opens-short _ (symbolsOf (c .before .before .before .before .args .above .now)) (symbolsOf (c .before .before .before .before .args .own .now)) (c .before .symbol-count .ensures) (c .if1 .taken)
 
-shared-requires : tie.Need-shared-requires
-shared-requires c κs = search needs
-
 returns-2 : tie.Need-returns-2
 returns-2 c = opens-apart _ (symbolsOf (c .before .before .before .before .before .before .args .above .now)) (symbolsOf (c .before .before .before .before .before .before .args .own .now)) (c .before .before .before .symbol-count .ensures) (c .before .before .if1 .left) (c .before .shared .ensures) (c .if2 .taken)
-
-symbol-count-requires-2 : tie.Need-symbol-count-requires-2
-symbol-count-requires-2 c κs = search needs
 
 returns-3 : tie.Need-returns-3
 returns-3 c = opens-behind _ (symbolsOf (c .before .before .before .before .before .before .before .args .above .now)) (symbolsOf (c .before .before .before .before .before .before .before .args .own .now)) (c .before .before .before .before .symbol-count .ensures) (c .before .before .before .if1 .left) (c .before .before .shared .ensures) (c .before .if2 .left) (c .symbol-count2 .ensures)
@@ -26,9 +17,9 @@ pub is-opening-spec : {M : Type 1} → statement M
 is-opening-spec =
     tie.close
     (tie.spec
-    symbol-count-requires
+    (λ c κs. search needs)
     returns
-    shared-requires
+    (λ c κs. search needs)
     returns-2
-    symbol-count-requires-2
+    (λ c κs. search needs)
     returns-3)

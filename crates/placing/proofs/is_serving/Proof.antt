@@ -4,23 +4,11 @@ use borrow.Author.Needs.{needs}
 use Rattle.placing.proofs.is_serving.Statement.{statement}
 use Rattle.placing.proofs.is_serving.Tie as tie
 
-shared-slice-read-if1 : tie.Need-shared-slice-read-if1
-shared-slice-read-if1 c = search needs
-
 returns : tie.Need-returns
 returns c = serves-taken (c .before .before .before .before .before .args .cells .now) (c .before .before .before .before .before .args .taken .now) _ _ (c .if1 .taken)
 
-shared-slice-read-is-usable : tie.Need-shared-slice-read-is-usable
-shared-slice-read-is-usable c = search needs
-
-is-usable-requires : tie.Need-is-usable-requires
-is-usable-requires c κs = search needs
-
 returns-2 : tie.Need-returns-2
 returns-2 c = serves-used (c .before .before .before .before .before .before .before .before .args .cells .now) (c .before .before .before .before .before .before .before .before .args .taken .now) _ _ (c .before .before .before .if1 .left) (c .before .before .before .before .before .before .before .before .pre .2) (c .before .before .before .before .before .before .before .before .pre .3) (c .before .is-usable .ensures) (not-true _ (c .if2 .taken))
-
-are-usable-requires : tie.Need-are-usable-requires
-are-usable-requires c κs = search needs
 
 returns-3 : tie.Need-returns-3
 returns-3 c = serves-free (c .before .before .before .before .before .before .before .before .before .args .cells .now) (c .before .before .before .before .before .before .before .before .before .args .taken .now) _ _ (c .before .before .before .before .if1 .left) (c .are-usable .ensures)
@@ -29,10 +17,10 @@ pub is-serving-spec : {M : Type 1} → statement M
 is-serving-spec =
     tie.close
     (tie.spec
-    shared-slice-read-if1
+    (λ c. search needs)
     returns
-    shared-slice-read-is-usable
-    is-usable-requires
+    (λ c. search needs)
+    (λ c κs. search needs)
     returns-2
-    are-usable-requires
+    (λ c κs. search needs)
     returns-3)

@@ -6,9 +6,6 @@ use Rattle.placing.proofs.Laws.{opens-long, line-kept, line-placed}
 use Rattle.placing.proofs.place_line.Statement.{statement}
 use Rattle.placing.proofs.place_line.Tie as tie
 
-is-opening-requires : tie.Need-is-opening-requires
-is-opening-requires c κs = search needs
-
 returns : tie.Need-returns
 returns c = line-kept _ _ _ (sym (c .before .is-opening .ensures) ∙ not-true _ (c .if1 .taken))
 
@@ -27,4 +24,4 @@ returns-2 c = line-placed _ _ _ (sym (c .before .before .before .before .before 
 pub place-line-spec : {M : Type 1} → statement M
 place-line-spec =
     tie.close
-    (tie.spec is-opening-requires returns place-path-requires same-length same-length-2 returns-2)
+    (tie.spec (λ c κs. search needs) returns place-path-requires same-length same-length-2 returns-2)

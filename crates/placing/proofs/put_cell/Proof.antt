@@ -5,15 +5,6 @@ use Rattle.placing.proofs.Laws.{cell-in, cell-out}
 use Rattle.placing.proofs.put_cell.Statement.{statement}
 use Rattle.placing.proofs.put_cell.Tie as tie
 
-mul-at : tie.Need-mul-at
-mul-at c = search needs
-
-slice-write-cells : tie.Need-slice-write-cells
-slice-write-cells c = search needs
-
-add-cells : tie.Need-add-cells
-add-cells c = search needs
-
 slice-write-cells-2 : tie.Need-slice-write-cells-2
 slice-write-cells-2 c = simp length-set (omega (arith, c .if1 .taken, c .before .pre .0))
 
@@ -29,4 +20,4 @@ returns-2 c = cell-out _ _ (c .before .args .cells .now) (c .if1 .left)
 pub put-cell-spec : {M : Type 1} → statement M
 put-cell-spec =
     tie.close
-    (tie.spec mul-at slice-write-cells add-cells slice-write-cells-2 same-length returns returns-2)
+    (tie.spec (λ c. search needs) (λ c. search needs) (λ c. search needs) slice-write-cells-2 same-length returns returns-2)

@@ -1,5 +1,5 @@
-use Rattle.report.proofs.Laws.{sign-fits, number-fits, list-fits, place-fits, end-fits, told-put}
 use borrow.Author.Needs.{needs}
+use Rattle.report.proofs.Laws.{sign-fits, number-fits, list-fits, place-fits, end-fits, told-put}
 use Rattle.report.proofs.put_told.Statement.{statement}
 use Rattle.report.proofs.put_told.Tie as tie
 
@@ -18,9 +18,6 @@ put-field-requires-2 c κs = place-fits (c .before .before .before .before .befo
 put-byte-requires-2 : tie.Need-put-byte-requires-2
 put-byte-requires-2 c κs = end-fits (c .before .before .before .before .before .before .before .before .before .before .before .before .before .before .before .before .before .before .args .sign) (c .before .before .before .before .before .before .before .before .before .before .before .before .before .before .before .before .before .before .args .number) (c .before .before .before .before .before .before .before .before .before .before .before .before .before .before .before .before .before .before .args .list) (c .before .before .before .before .before .before .before .before .before .before .before .before .before .before .before .before .before .before .args .place) _ (c .before .before .before .before .before .before .before .before .before .before .before .before .before .before .before .before .before .before .args .room .now) (c .before .before .before .before .before .before .before .before .before .before .before .before .before .before .before .before .before .before .pre) (c .before .before .before .before .before .before .before .before .before .before .before .before .before .before .before .put-byte .ensures) (c .before .before .before .before .before .before .before .before .before .before .before .put-field .ensures) (c .before .before .before .before .before .before .before .put-list .ensures) (c .before .before .before .put-field2 .ensures)
 
-same-length : tie.Need-same-length
-same-length c = search needs
-
 returns : tie.Need-returns
 returns c = told-put _ (c .before .before .before .before .before .before .before .before .before .before .before .before .before .before .before .before .before .before .before .before .before .args .number) (c .before .before .before .before .before .before .before .before .before .before .before .before .before .before .before .before .before .before .before .before .before .args .list) (c .before .before .before .before .before .before .before .before .before .before .before .before .before .before .before .before .before .before .before .before .before .args .place) _ _ (c .before .before .before .before .before .before .before .before .before .before .before .before .before .before .before .before .before .before .before .before .before .pre) (c .before .before .before .before .before .before .before .before .before .before .before .before .before .before .before .before .before .before .put-byte .ensures) (c .before .before .before .before .before .before .before .before .before .before .before .before .before .before .put-field .ensures) (c .before .before .before .before .before .before .before .before .before .before .put-list .ensures) (c .before .before .before .before .before .before .put-field2 .ensures) (c .before .before .put-byte2 .ensures)
 
@@ -33,5 +30,5 @@ put-told-spec =
     put-list-requires
     put-field-requires-2
     put-byte-requires-2
-    same-length
+    (λ c. search needs)
     returns)

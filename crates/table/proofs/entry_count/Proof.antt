@@ -3,11 +3,8 @@ use Rattle.table.proofs.Laws.{entries-told}
 use Rattle.table.proofs.entry_count.Statement.{statement}
 use Rattle.table.proofs.entry_count.Tie as tie
 
-number-at-requires : tie.Need-number-at-requires
-number-at-requires c κs = search needs
-
 returns : tie.Need-returns
 returns c = entries-told _ (c .number-at .ensures)
 
 pub entry-count-spec : {M : Type 1} → statement M
-entry-count-spec = tie.close (tie.spec number-at-requires returns)
+entry-count-spec = tie.close (tie.spec (λ c κs. search needs) returns)

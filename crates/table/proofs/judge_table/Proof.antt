@@ -8,23 +8,11 @@ use Rattle.table.proofs.judge_table.Tie as tie
 returns : tie.Need-returns
 returns c = said-by (table-ordered _) (short-table _ (c .if1 .taken))
 
-shared-slice-read-if2 : tie.Need-shared-slice-read-if2
-shared-slice-read-if2 c = search needs
-
 returns-2 : tie.Need-returns-2
 returns-2 c = said-by (table-ordered _) (wrong-kind _ (c .before .before .if1 .left) (c .if2 .taken))
 
-shared-slice-read-if3 : tie.Need-shared-slice-read-if3
-shared-slice-read-if3 c = search needs
-
 returns-3 : tie.Need-returns-3
 returns-3 c = said-by (table-ordered _) (wrong-edition _ (c .before .before .before .before .if1 .left) (c .before .before .if2 .left) (c .if3 .taken))
-
-number-in-requires : tie.Need-number-in-requires
-number-in-requires c κs = search needs
-
-cast-cells : tie.Need-cast-cells
-cast-cells c = search needs
 
 returns-4 : tie.Need-returns-4
 returns-4 c = said-by (table-ordered _) (no-cells _ (c .before .before .before .before .before .before .if1 .left) (c .before .before .before .before .if2 .left) (c .before .before .if3 .left) (c .before .number-in .ensures) (c .if4 .taken))
@@ -32,26 +20,8 @@ returns-4 c = said-by (table-ordered _) (no-cells _ (c .before .before .before .
 returns-5 : tie.Need-returns-5
 returns-5 c = said-by (table-ordered _) (many-cells _ (c .before .before .before .before .before .before .before .if1 .left) (c .before .before .before .before .before .if2 .left) (c .before .before .before .if3 .left) (c .before .before .number-in .ensures) (c .before .if4 .left) (c .if5 .taken))
 
-number-in-requires-2 : tie.Need-number-in-requires-2
-number-in-requires-2 c κs = search needs
-
-cast-entries : tie.Need-cast-entries
-cast-entries c = search needs
-
 returns-6 : tie.Need-returns-6
 returns-6 c = said-by (table-ordered _) (many-entries _ (c .before .before .before .before .before .before .before .before .before .if1 .left) (c .before .before .before .before .before .before .before .if2 .left) (c .before .before .before .before .before .if3 .left) (c .before .before .before .before .number-in .ensures) (c .before .before .before .if4 .left) (c .before .before .if5 .left) (c .before .number-in2 .ensures) (c .if6 .taken))
-
-mul-if7 : tie.Need-mul-if7
-mul-if7 c = search needs
-
-add-if7 : tie.Need-add-if7
-add-if7 c = search needs
-
-mul-if7-2 : tie.Need-mul-if7-2
-mul-if7-2 c = search needs
-
-add-if7-2 : tie.Need-add-if7-2
-add-if7-2 c = search needs
 
 returns-7 : tie.Need-returns-7
 returns-7 c = said-by (table-ordered _) (wrong-length _ (c .before .before .before .before .before .before .before .before .before .before .if1 .left) (c .before .before .before .before .before .before .before .before .if2 .left) (c .before .before .before .before .before .before .if3 .left) (c .before .before .before .before .before .number-in .ensures) (c .before .before .before .before .if4 .left) (c .before .before .before .if5 .left) (c .before .before .number-in2 .ensures) (c .before .if6 .left) (c .if7 .taken))
@@ -64,20 +34,20 @@ judge-table-spec =
     tie.close
     (tie.spec
     returns
-    shared-slice-read-if2
+    (λ c. search needs)
     returns-2
-    shared-slice-read-if3
+    (λ c. search needs)
     returns-3
-    number-in-requires
-    cast-cells
+    (λ c κs. search needs)
+    (λ c. search needs)
     returns-4
     returns-5
-    number-in-requires-2
-    cast-entries
+    (λ c κs. search needs)
+    (λ c. search needs)
     returns-6
-    mul-if7
-    add-if7
-    mul-if7-2
-    add-if7-2
+    (λ c. search needs)
+    (λ c. search needs)
+    (λ c. search needs)
+    (λ c. search needs)
     returns-7
     returns-8)

@@ -1,3 +1,4 @@
+-- Each call raises what one entry sets and goes on with its next; the number of the entry falls.
 use borrow.Author.Needs.{needs}
 use Prim.Native.Nat.{ℕ, _<_}
 use borrow.Fn.Kinds.{In}

@@ -1,3 +1,4 @@
+-- The row begins with the edge and the symbols of the first i letters; the letters left fall.
 use borrow.Author.Needs.{needs}
 use Prim.Native.Nat.{_≤_, _+_, _-_}
 use mathlib.Core.List.{_∷_}
@@ -17,38 +18,14 @@ Inv-loop word row₀ i₀ row i = (i ≤ length word) × (length row ≡ length 
 abbrev μ-loop : tie.MeasureT-loop
 μ-loop word row₀ i₀ row i = length word - i
 
-slice-write-row : tie.Need-slice-write-row Inv-loop μ-loop
-slice-write-row c = search needs
-
 loop-holds : tie.Need-loop-holds Inv-loop μ-loop
 loop-holds c = (search needs, search needs, simp length-set (search needs), row-start (c .before .before .args .word .now) (c .before .before .args .row .now) (omega (arith, c .before .before .pre .1)))
-
-shared-slice-read-letter-symbol : tie.Need-shared-slice-read-letter-symbol Inv-loop μ-loop
-shared-slice-read-letter-symbol c = search needs
 
 letter-symbol-requires : tie.Need-letter-symbol-requires Inv-loop μ-loop
 letter-symbol-requires c κs = word-letter _ _ (c .before .before .before .before .before .pre .0) _ (c .before .loop-test .taken)
 
-add-row : tie.Need-add-row Inv-loop μ-loop
-add-row c = search needs
-
-slice-write-row-2 : tie.Need-slice-write-row-2 Inv-loop μ-loop
-slice-write-row-2 c = search needs
-
-add-i : tie.Need-add-i Inv-loop μ-loop
-add-i c = search needs
-
-loop-less : tie.Need-loop-less Inv-loop μ-loop
-loop-less c = search needs
-
 loop-again : tie.Need-loop-again Inv-loop μ-loop
 loop-again c = (search needs, simp length-set (simp length-set at (c .before .before .before .loop .inv .1)), search needs, row-turn (c .before .before .before .before .before .before .args .word .now) (c .before .before .before .loop .row) (c .before .before .before .loop .i) (c .before .before .loop-test .taken) (omega (arith, c .before .before .before .loop .inv .1, c .before .before .before .loop .inv .2, c .before .before .loop-test .taken)) (c .before .before .before .loop .inv .3) (c .letter-symbol .ensures))
-
-add-row-2 : tie.Need-add-row-2 Inv-loop μ-loop
-add-row-2 c = search needs
-
-slice-write-row-3 : tie.Need-slice-write-row-3 Inv-loop μ-loop
-slice-write-row-3 c = search needs
 
 same-length : tie.Need-same-length Inv-loop μ-loop
 same-length c = row-kept (c .before .before .before .before .args .row .now) (c .before .loop .row) (c .before .loop .i + 1) edge (c .before .loop .inv .1)
@@ -62,16 +39,16 @@ fill-row-spec =
     (tie.spec
     Inv-loop
     μ-loop
-    slice-write-row
+    (λ c. search needs)
     loop-holds
-    shared-slice-read-letter-symbol
+    (λ c. search needs)
     letter-symbol-requires
-    add-row
-    slice-write-row-2
-    add-i
-    loop-less
+    (λ c. search needs)
+    (λ c. search needs)
+    (λ c. search needs)
+    (λ c. search needs)
     loop-again
-    add-row-2
-    slice-write-row-3
+    (λ c. search needs)
+    (λ c. search needs)
     same-length
     returns)

@@ -9,18 +9,6 @@ returns c = raise-low _ _ _ _ (c .if1 .taken)
 returns-2 : tie.Need-returns-2
 returns-2 c = raise-high _ _ _ _ (c .before .if1 .left) (c .if2 .taken)
 
-sub-gap : tie.Need-sub-gap
-sub-gap c = search needs
-
-element-copy-out-higher : tie.Need-element-copy-out-higher
-element-copy-out-higher c = search needs
-
-higher-requires : tie.Need-higher-requires
-higher-requires c κs = search needs
-
-element-write-room : tie.Need-element-write-room
-element-write-room c = search needs
-
 returns-3 : tie.Need-returns-3
 returns-3 c = raise-highest _ _ _ _ (c .before .before .before .if1 .left) (c .before .before .if2 .left) (c .higher .ensures)
 
@@ -30,8 +18,8 @@ raise-to-spec =
     (tie.spec
     returns
     returns-2
-    sub-gap
-    element-copy-out-higher
-    higher-requires
-    element-write-room
+    (λ c. search needs)
+    (λ c. search needs)
+    (λ c κs. search needs)
+    (λ c. search needs)
     returns-3)

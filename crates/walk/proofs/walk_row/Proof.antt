@@ -1,3 +1,5 @@
+-- Outer: the settings of the places before this one are raised and their looks counted; the places left fall. Inner: m symbols have
+-- matched from this place, and what they set is raised; what is left of the row falls.
 use borrow.Author.Needs.{needs}
 use Prim.Native.Nat.{_-_}
 use mathlib.Core.Logic.{⊎-elim}
@@ -26,33 +28,6 @@ loop-holds c = law.going-start _ _ _ _ _ _
 walk-holds : tie.Need-walk-holds Inv-walk μ-walk Inv-loop μ-loop
 walk-holds c = law.walking-start _ _ _ _ _ _ _ (c .loop-test .taken)
 
-shared-slice-read-symbol : tie.Need-shared-slice-read-symbol Inv-walk μ-walk Inv-loop μ-loop
-shared-slice-read-symbol c = search needs
-
-look-at-requires : tie.Need-look-at-requires Inv-walk μ-walk Inv-loop μ-loop
-look-at-requires c κs = search needs
-
-enum-known-found : tie.Need-enum-known-found Inv-walk μ-walk Inv-loop μ-loop
-enum-known-found c = search needs
-
-enum-told : tie.Need-enum-told Inv-walk μ-walk Inv-loop μ-loop
-enum-told c = search needs
-
-add-walked : tie.Need-add-walked Inv-walk μ-walk Inv-loop μ-loop
-add-walked c = search needs
-
-add-m : tie.Need-add-m Inv-walk μ-walk Inv-loop μ-loop
-add-m c = search needs
-
-add-end : tie.Need-add-end Inv-walk μ-walk Inv-loop μ-loop
-add-end c = search needs
-
-apply-chain-requires : tie.Need-apply-chain-requires Inv-walk μ-walk Inv-loop μ-loop
-apply-chain-requires c κs = search needs
-
-walk-less : tie.Need-walk-less Inv-walk μ-walk Inv-loop μ-loop
-walk-less c = search needs
-
 walk-again : tie.Need-walk-again Inv-walk μ-walk Inv-loop μ-loop
 walk-again c = law.walking-on _ _ _ _ _ _ _ (c .before .before .before .before .before .before .before .before .before .before .walk .inv) (c .before .before .before .before .before .before .before .before .look-at .ensures) (c .before .before .before .before .before .before .found .given .1) (c .before .before .before .apply-chain .ensures) (c .before .before .if1 .left) (c .before .if2 .left) (c .if3 .left)
 
@@ -70,12 +45,6 @@ ended c =
 add-looks : tie.Need-add-looks Inv-walk μ-walk Inv-loop μ-loop
 add-looks c = omega (arith, ended (c .before) .few, c .before .before .before .before .before .before .loop .inv .few, c .before .before .before .before .before .loop-test .taken, c .before .before .before .before .before .before .before .before .before .pre .0)
 
-add-place : tie.Need-add-place Inv-walk μ-walk Inv-loop μ-loop
-add-place c = search needs
-
-loop-less : tie.Need-loop-less Inv-walk μ-walk Inv-loop μ-loop
-loop-less c = search needs
-
 loop-again : tie.Need-loop-again Inv-walk μ-walk Inv-loop μ-loop
 loop-again c = law.going-on _ _ _ _ _ _ (c .before .before .before .before .before .before .loop .inv) (c .before .before .before .before .before .loop-test .taken) (ended (c .before))
 
@@ -92,18 +61,18 @@ walk-row-spec =
     μ-loop
     loop-holds
     walk-holds
-    shared-slice-read-symbol
-    look-at-requires
-    enum-known-found
-    enum-told
-    add-walked
-    add-m
-    add-end
-    apply-chain-requires
-    walk-less
+    (λ c. search needs)
+    (λ c κs. search needs)
+    (λ c. search needs)
+    (λ c. search needs)
+    (λ c. search needs)
+    (λ c. search needs)
+    (λ c. search needs)
+    (λ c κs. search needs)
+    (λ c. search needs)
     walk-again
     add-looks
-    add-place
-    loop-less
+    (λ c. search needs)
+    (λ c. search needs)
     loop-again
     returns)

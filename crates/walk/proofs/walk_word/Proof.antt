@@ -5,14 +5,8 @@ use Rattle.walk.proofs.Laws.{row-part, word-walked}
 use Rattle.walk.proofs.walk_word.Statement.{statement}
 use Rattle.walk.proofs.walk_word.Tie as tie
 
-slice-aggregate-fill-row : tie.Need-slice-aggregate-fill-row
-slice-aggregate-fill-row c = search needs
-
 fill-row-requires : tie.Need-fill-row-requires
 fill-row-requires c κs = (c .before .before .before .before .pre, omega (arith, word-fits _ _ (c .before .before .before .before .pre)))
-
-add-end : tie.Need-add-end
-add-end c = search needs
 
 array-share-prefix-row : tie.Need-array-share-prefix-row
 array-share-prefix-row c = omega (arith, word-fits _ _ (c .before .before .before .before .before .before .before .pre))
@@ -30,9 +24,9 @@ pub walk-word-spec : {M : Type 1} → statement M
 walk-word-spec =
     tie.close
     (tie.spec
-    slice-aggregate-fill-row
+    (λ c. search needs)
     fill-row-requires
-    add-end
+    (λ c. search needs)
     array-share-prefix-row
     slice-aggregate-walk-row
     walk-row-requires

@@ -1,4 +1,3 @@
-use borrow.Author.Needs.{needs}
 use Rattle.words.proofs.Theorems.{letter-bits}
 use Rattle.words.proofs.letter_symbol.Statement.{statement}
 use Rattle.words.proofs.letter_symbol.Tie as tie

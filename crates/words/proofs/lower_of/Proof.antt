@@ -9,11 +9,8 @@ returns c = search lower-below
 returns-2 : tie.Need-returns-2
 returns-2 c = search lower-above
 
-add-result : tie.Need-add-result
-add-result c = search needs
-
 returns-3 : tie.Need-returns-3
 returns-3 c = search lower-capital
 
 pub lower-of-spec : {M : Type 1} → statement M
-lower-of-spec = tie.close (tie.spec returns returns-2 add-result returns-3)
+lower-of-spec = tie.close (tie.spec returns returns-2 (λ c. search needs) returns-3)

@@ -5,9 +5,6 @@ use Rattle.words.proofs.Laws.{small-low, symbol-small, symbol-dot, symb
 use Rattle.words.proofs.symbol_of.Statement.{statement}
 use Rattle.words.proofs.symbol_of.Tie as tie
 
-is-small-requires : tie.Need-is-small-requires
-is-small-requires c κs = search needs
-
 sub-result : tie.Need-sub-result
 sub-result c = omega (arith, small-low _ (sym (c .before .is-small .ensures) ∙ c .if1 .taken))
 
@@ -21,4 +18,4 @@ returns-3 : tie.Need-returns-3
 returns-3 c = symbol-none _ (sym (c .before .before .is-small .ensures) ∙ c .before .if1 .left) (c .if2 .left)
 
 pub symbol-of-spec : {M : Type 1} → statement M
-symbol-of-spec = tie.close (tie.spec is-small-requires sub-result returns returns-2 returns-3)
+symbol-of-spec = tie.close (tie.spec (λ c κs. search needs) sub-result returns returns-2 returns-3)

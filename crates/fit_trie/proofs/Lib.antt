@@ -1,0 +1,11 @@
+pub mod Bytes
+pub mod Strings
+pub mod Nodes
+pub mod Placing
+pub mod Opened
+pub mod Search
+pub mod Passes
+pub mod Chains
+pub mod Outputs
+pub mod Finished
+pub mod Behind

@@ -1,4 +1,0 @@
-pub mod Paths
-pub mod Right
-pub mod Test
-pub mod Reached
