@@ -1,13 +1,20 @@
 /*
  * Tteolmigu: a hyphenator for print modules.
  *
- * Link with libcapi.a (made by 'rt staticlib capi' as target/staticlib/libcapi.a). The archive is for x86-64 Linux and needs nothing
- * of the C library but memcpy and memset. No call allocates, keeps state, or reads or writes anything but the memory that it is lent,
- * so any number of threads may call at once as long as no two of them share a room.
+ * Link with libtteolmigu.a, which 'rt staticlib tteolmigu' writes as target/staticlib/libtteolmigu.a. From the repository's top:
+ *
+ *     cc -std=c99 -Iinclude program.c target/staticlib/libtteolmigu.a -o program
+ *
+ * The archive is for x86-64 Linux and needs nothing of the C library but memcpy and memset. No call allocates, keeps state, or reads or
+ * writes anything but the memory that it is lent, so any number of threads may call at once as long as no two of them share a room.
  *
  * Lent memory. Every text, table and room is a pointer and a size in bytes. A pointer must not be null, even where the size is 0, and
  * must have as many bytes as the size says. Only 'room' is written; it must not overlap any other argument. Texts and tables may hold
  * any bytes: each call ends with a finding or with a numbered refusal, whatever they hold.
+ *
+ * Tables. A table is a head of 6 bytes, then C cells of 6 bytes each, then E entries of 5 bytes each, and nothing behind. Bytes 0 and 1
+ * are the head's kind and the edition, both 1. Bytes 2 and 3 tell C and bytes 4 and 5 tell E, each with the high byte first. The length
+ * is 6 + 6C + 5E. docs/FORMATS.md has cells and entries, to the byte.
  *
  * Stack. Pack takes at most TTEOLMIGU_PACK_STACK bytes and every other call at most TTEOLMIGU_STACK, whatever texts and tables hold;
  * as compiled today these are 18,764 bytes for pack, 616 for hyphenate, 376 for levels, 348 for check and 220 for lookup. No function
@@ -45,9 +52,40 @@
 extern "C" {
 #endif
 
+/* The version of this header and of the library that it declares. A later one has a greater TTEOLMIGU_VERSION. */
+#define TTEOLMIGU_VERSION_MAJOR 1
+#define TTEOLMIGU_VERSION_MINOR 0
+#define TTEOLMIGU_VERSION_PATCH 0
+#define TTEOLMIGU_VERSION (TTEOLMIGU_VERSION_MAJOR * 1000000 + TTEOLMIGU_VERSION_MINOR * 1000 + TTEOLMIGU_VERSION_PATCH)
+
 /* Sizes that a caller needs for its rooms. */
 #define TTEOLMIGU_ROOM 64u          /* a break or level room has at least so many bytes */
 #define TTEOLMIGU_PACK_ROOM 59398u  /* a pack room has at least so many bytes, and no table has more */
+
+/* Words and margins. */
+#define TTEOLMIGU_WORD_LIMIT 63u    /* letters of a word, at most; at least 1 */
+#define TTEOLMIGU_MARGIN_LEAST 1u   /* a margin, at least */
+#define TTEOLMIGU_MARGIN_LIMIT 63u  /* a margin, at most */
+#define TTEOLMIGU_LOOK_LIMIT 1040u  /* cells looked at for a word, at most: 16 * (63 + 2) */
+
+/* Lists. */
+#define TTEOLMIGU_PATTERN_TEXT 32768u   /* bytes of a pattern list, at most */
+#define TTEOLMIGU_PATTERN_LIMIT 16u     /* symbols of a pattern, at most; at least 1 */
+#define TTEOLMIGU_LEVEL_LIMIT 9u        /* a level, at most */
+#define TTEOLMIGU_EXCEPTION_TEXT 8192u  /* bytes of an exception list, at most; each list for itself */
+#define TTEOLMIGU_EXCEPTION_LIMIT 63u   /* letters of an exception line, at most, without its hyphens; at least 1 */
+#define TTEOLMIGU_CUSTOMER_LIST 1u      /* the number of the customer's list in an answer */
+#define TTEOLMIGU_HOUSE_LIST 2u         /* the number of the house's list in an answer */
+
+/* Tables. */
+#define TTEOLMIGU_EDITION 1u                       /* the edition that a head tells */
+#define TTEOLMIGU_HEAD_SIZE 6u                     /* bytes of the head */
+#define TTEOLMIGU_CELL_SIZE 6u                     /* bytes of a cell */
+#define TTEOLMIGU_ENTRY_SIZE 5u                    /* bytes of an entry */
+#define TTEOLMIGU_CELL_LIMIT 8192u                 /* cells of a table, C, at most; at least 1 */
+#define TTEOLMIGU_ENTRY_LIMIT 2048u                /* entries of a table, E, at most; at least 0 */
+#define TTEOLMIGU_TABLE_LEAST 12u                  /* bytes of a table, at least: a head and one cell */
+#define TTEOLMIGU_TABLE_LIMIT TTEOLMIGU_PACK_ROOM  /* bytes of a table, at most */
 
 /* Stack in bytes that a call takes at most: what tests/stack sees, with some air. */
 #define TTEOLMIGU_STACK 1024u        /* hyphenate, levels, check and lookup */
@@ -160,6 +198,30 @@ static inline size_t tteolmigu_offset(uint64_t answer)
 static inline size_t tteolmigu_length(uint64_t answer)
 {
     return (size_t)(answer & 0xffffu);
+}
+
+/*
+ * What a table's head tells. The caller sees to it that the table has at least TTEOLMIGU_HEAD_SIZE bytes. Nothing else is asked of
+ * them, so that a stranger's head may tell any numbers up to 65,535.
+ */
+
+/* The number of cells, C. */
+static inline unsigned tteolmigu_cells(const uint8_t *table)
+{
+    return (unsigned)table[2] << 8 | table[3];
+}
+
+/* The number of entries, E. */
+static inline unsigned tteolmigu_entries(const uint8_t *table)
+{
+    return (unsigned)table[4] << 8 | table[5];
+}
+
+/* The length that a table with so many cells and entries has, as for whoever has read the head and not yet the rest. */
+static inline size_t tteolmigu_table_size(const uint8_t *table)
+{
+    return TTEOLMIGU_HEAD_SIZE + (size_t)TTEOLMIGU_CELL_SIZE * tteolmigu_cells(table) +
+           (size_t)TTEOLMIGU_ENTRY_SIZE * tteolmigu_entries(table);
 }
 
 #ifdef __cplusplus

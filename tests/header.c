@@ -1,4 +1,7 @@
-/* The C interface from C: every call and every accessor of the header, on figures of document 01. Built as C99 and as C++. */
+/*
+ * The C interface from C: every call, accessor and constant of the header, on figures of document 01 and at the limits. Built as C99
+ * and as C++.
+ */
 #include "tteolmigu.h"
 
 #include <stdio.h>
@@ -17,8 +20,13 @@ static void expect(const char *name, int fact)
     }
 }
 
+#if TTEOLMIGU_VERSION < 1000000
+#error "a version before the first one"
+#endif
+
 static uint8_t table[TTEOLMIGU_PACK_ROOM];
 static uint8_t room[TTEOLMIGU_ROOM + 1];
+static uint8_t large[TTEOLMIGU_TABLE_LIMIT + TTEOLMIGU_CELL_SIZE]; /* a text or table that may pass its limit */
 
 static const uint8_t *bytes(const char *text)
 {
@@ -36,6 +44,162 @@ static uint64_t lookup(const char *word, const char *customer, const char *house
     return tteolmigu_lookup(bytes(word), strlen(word), bytes(customer), strlen(customer), bytes(house), strlen(house));
 }
 
+static uint64_t pack(const char *patterns)
+{
+    return tteolmigu_pack(bytes(patterns), strlen(patterns), table, sizeof table);
+}
+
+static uint64_t levels_of(const char *word, const uint8_t *any, size_t size)
+{
+    return tteolmigu_levels(bytes(word), strlen(word), any, size, room, sizeof room);
+}
+
+/* So many letters, then an ending. The text holds until the next call. */
+static const char *letters(size_t count, const char *ending)
+{
+    static char text[128];
+
+    memset(text, 'a', count);
+    strcpy(text + count, ending);
+    return text;
+}
+
+static void put_head(uint8_t *any, unsigned edition, unsigned cells, unsigned entries)
+{
+    any[0] = 1;
+    any[1] = (uint8_t)edition;
+    any[2] = (uint8_t)(cells >> 8);
+    any[3] = (uint8_t)cells;
+    any[4] = (uint8_t)(entries >> 8);
+    any[5] = (uint8_t)entries;
+}
+
+/* The number on which the levels call refuses a table that has nothing but a head. */
+static unsigned judge_head(unsigned edition, unsigned cells, unsigned entries)
+{
+    memset(large, 0, sizeof large);
+    put_head(large, edition, cells, entries);
+    return tteolmigu_number(levels_of("on", large, tteolmigu_table_size(large)));
+}
+
+static void versions(void)
+{
+    expect("a patch counts one", TTEOLMIGU_VERSION % 1000 == TTEOLMIGU_VERSION_PATCH);
+    expect("a minor version a thousand", TTEOLMIGU_VERSION / 1000 % 1000 == TTEOLMIGU_VERSION_MINOR);
+    expect("a major version a million", TTEOLMIGU_VERSION / 1000000 == TTEOLMIGU_VERSION_MAJOR);
+}
+
+/* What is at its limit is answered, and what is one past it is refused. */
+static void limits_of_words(void)
+{
+    size_t size = tteolmigu_size(pack(""));
+    uint64_t r;
+
+    r = hyphenate(1, 1, letters(TTEOLMIGU_WORD_LIMIT, ""), "", "", size);
+    expect("the longest word", tteolmigu_number(r) == 0);
+    r = hyphenate(1, 1, letters(TTEOLMIGU_WORD_LIMIT + 1, ""), "", "", size);
+    expect("a longer one", tteolmigu_number(r) == TTEOLMIGU_WORD_LONG);
+    r = hyphenate(TTEOLMIGU_MARGIN_LEAST, TTEOLMIGU_MARGIN_LIMIT, "on", "", "", size);
+    expect("margins at their limits", tteolmigu_number(r) == 0);
+    r = hyphenate(TTEOLMIGU_MARGIN_LIMIT, TTEOLMIGU_MARGIN_LEAST, "on", "", "", size);
+    expect("the other way round", tteolmigu_number(r) == 0);
+    r = hyphenate(TTEOLMIGU_MARGIN_LEAST - 1, 1, "on", "", "", size);
+    expect("a left margin too small", tteolmigu_number(r) == TTEOLMIGU_MARGIN);
+    r = hyphenate(1, TTEOLMIGU_MARGIN_LEAST - 1, "on", "", "", size);
+    expect("a right margin too small", tteolmigu_number(r) == TTEOLMIGU_MARGIN);
+    r = hyphenate(TTEOLMIGU_MARGIN_LIMIT + 1, 1, "on", "", "", size);
+    expect("a left margin too great", tteolmigu_number(r) == TTEOLMIGU_MARGIN);
+    r = hyphenate(1, TTEOLMIGU_MARGIN_LIMIT + 1, "on", "", "", size);
+    expect("a right margin too great", tteolmigu_number(r) == TTEOLMIGU_MARGIN);
+    r = tteolmigu_levels(bytes("on"), 2, table, size, room, TTEOLMIGU_ROOM);
+    expect("a room of just the size", tteolmigu_number(r) == 0);
+}
+
+/* A text of equal letters is one bad line as long as it is within its size. */
+static void limits_of_lists(void)
+{
+    size_t size = tteolmigu_size(pack(""));
+    const uint8_t *none = bytes("");
+    uint64_t r;
+
+    memset(large, 'a', sizeof large);
+    r = tteolmigu_pack(large, TTEOLMIGU_PATTERN_TEXT, table, sizeof table);
+    expect("a pattern text of full size", tteolmigu_number(r) == TTEOLMIGU_BAD_PATTERN);
+    r = tteolmigu_pack(large, TTEOLMIGU_PATTERN_TEXT + 1, table, sizeof table);
+    expect("a longer pattern text", tteolmigu_number(r) == TTEOLMIGU_TEXT_LONG);
+    r = tteolmigu_hyphenate(2, 3, bytes("on"), 2, large, TTEOLMIGU_EXCEPTION_TEXT, none, 0, table, size, room, sizeof room);
+    expect("a customer's list of full size", tteolmigu_number(r) == TTEOLMIGU_BAD_EXCEPTION);
+    expect("the customer's number", tteolmigu_list(r) == TTEOLMIGU_CUSTOMER_LIST);
+    r = tteolmigu_hyphenate(2, 3, bytes("on"), 2, large, TTEOLMIGU_EXCEPTION_TEXT + 1, none, 0, table, size, room, sizeof room);
+    expect("a longer customer's list", tteolmigu_number(r) == TTEOLMIGU_TEXT_LONG);
+    r = tteolmigu_hyphenate(2, 3, bytes("on"), 2, none, 0, large, TTEOLMIGU_EXCEPTION_TEXT, table, size, room, sizeof room);
+    expect("a house list of full size", tteolmigu_number(r) == TTEOLMIGU_BAD_EXCEPTION);
+    expect("the house's number", tteolmigu_list(r) == TTEOLMIGU_HOUSE_LIST);
+    r = tteolmigu_hyphenate(2, 3, bytes("on"), 2, none, 0, large, TTEOLMIGU_EXCEPTION_TEXT + 1, table, size, room, sizeof room);
+    expect("a longer house list", tteolmigu_number(r) == TTEOLMIGU_TEXT_LONG);
+
+    r = hyphenate(2, 3, "on", letters(TTEOLMIGU_EXCEPTION_LIMIT, "\n"), "", size);
+    expect("the longest exception", tteolmigu_number(r) == 0);
+    r = hyphenate(2, 3, "on", letters(TTEOLMIGU_EXCEPTION_LIMIT + 1, "\n"), "", size);
+    expect("a longer exception", tteolmigu_number(r) == TTEOLMIGU_BAD_EXCEPTION);
+    r = pack(letters(TTEOLMIGU_PATTERN_LIMIT, "1\n"));
+    expect("the longest pattern", tteolmigu_number(r) == 0);
+    r = pack(letters(TTEOLMIGU_PATTERN_LIMIT + 1, "1\n"));
+    expect("a longer pattern", tteolmigu_number(r) == TTEOLMIGU_BAD_PATTERN);
+}
+
+static void limits_of_tables(void)
+{
+    const unsigned edition = TTEOLMIGU_EDITION, cells = TTEOLMIGU_CELL_LIMIT, entries = TTEOLMIGU_ENTRY_LIMIT;
+    size_t size, level;
+    uint64_t r;
+
+    expect("the smallest table", tteolmigu_size(pack("")) == TTEOLMIGU_TABLE_LEAST);
+    expect("its cell", tteolmigu_cells(table) == 1 && tteolmigu_entries(table) == 0);
+    expect("the least of all", judge_head(edition, 1, 0) == 0 && tteolmigu_table_size(large) == TTEOLMIGU_TABLE_LEAST);
+    expect("no cell", judge_head(edition, 0, 0) == TTEOLMIGU_TABLE_FORM);
+    expect("the most of all", judge_head(edition, cells, entries) == 0 && tteolmigu_table_size(large) == TTEOLMIGU_TABLE_LIMIT);
+    expect("a cell more", judge_head(edition, cells + 1, entries) == TTEOLMIGU_TABLE_FORM);
+    expect("an entry more", judge_head(edition, cells, entries + 1) == TTEOLMIGU_TABLE_FORM);
+    expect("another edition", judge_head(edition + 1, 1, 0) == TTEOLMIGU_TABLE_FORM);
+    put_head(large, edition, 0x1234, 0x0789);
+    expect("two bytes of cells", tteolmigu_cells(large) == 0x1234);
+    expect("two bytes of entries", tteolmigu_entries(large) == 0x0789);
+    put_head(large, edition, 0xffff, 0xffff);
+    expect("the longest length that a head tells", tteolmigu_table_size(large) == 6 + 11 * (size_t)0xffff);
+
+    /* The pattern's level is the third byte of the only entry, behind cells 0 and 1. */
+    size = tteolmigu_size(pack("a9\n"));
+    level = TTEOLMIGU_HEAD_SIZE + 2 * TTEOLMIGU_CELL_SIZE + 2;
+    expect("two cells and an entry", size == TTEOLMIGU_HEAD_SIZE + 2 * TTEOLMIGU_CELL_SIZE + TTEOLMIGU_ENTRY_SIZE);
+    r = levels_of("aa", table, size);
+    expect("the highest level", tteolmigu_marks(r) == 1 && room[1] == TTEOLMIGU_LEVEL_LIMIT);
+    expect("its byte", table[level] == TTEOLMIGU_LEVEL_LIMIT);
+    table[level]++;
+    r = levels_of("aa", table, size);
+    expect("a higher level", tteolmigu_marks(r) == 0 && room[1] == 0);
+    r = tteolmigu_check(bytes("a9\n"), 3, table, size);
+    expect("a higher level isn't right", tteolmigu_number(r) == TTEOLMIGU_NOT_RIGHT);
+}
+
+/* Two cells with the symbol 1 that lead round: each walk over the letter "a" goes on to its limit or to the word's edge. */
+static void limit_of_looks(void)
+{
+    uint8_t round[TTEOLMIGU_HEAD_SIZE + 3 * TTEOLMIGU_CELL_SIZE] = {0};
+    unsigned looks = 2; /* the edges */
+    size_t place;
+    uint64_t r;
+
+    put_head(round, TTEOLMIGU_EDITION, 3, 0);
+    memcpy(round + TTEOLMIGU_HEAD_SIZE + TTEOLMIGU_CELL_SIZE, "\2\1\0\1\0\0\2\1\0\1\0\0", 2 * TTEOLMIGU_CELL_SIZE);
+    for (place = 1; place <= TTEOLMIGU_WORD_LIMIT; place++)
+        looks += place < TTEOLMIGU_PATTERN_LIMIT ? (unsigned)place + 1 : TTEOLMIGU_PATTERN_LIMIT;
+    r = levels_of(letters(TTEOLMIGU_WORD_LIMIT, ""), round, sizeof round);
+    expect("the looks of a circle", tteolmigu_number(r) == 0 && tteolmigu_looks(r) == looks);
+    expect("within the limit", looks <= TTEOLMIGU_LOOK_LIMIT);
+    expect("the limit of looks", TTEOLMIGU_LOOK_LIMIT == TTEOLMIGU_PATTERN_LIMIT * (TTEOLMIGU_WORD_LIMIT + 2));
+}
+
 int main(void)
 {
     const char *nine = "he2n\nhena4\nhen5at\nhy3ph\n2io\n1na\nn2at\no2n\n1tio\n";
@@ -48,6 +212,8 @@ int main(void)
     size = tteolmigu_size(r);
     expect("pack finds", tteolmigu_number(r) == 0 && size == 233);
     expect("the table's head", memcmp(table, "\1\1\0\40\0\7", 6) == 0);
+    expect("its cells and entries", tteolmigu_cells(table) == 32 && tteolmigu_entries(table) == 7);
+    expect("the length that it tells", tteolmigu_table_size(table) == size);
     r = tteolmigu_check(bytes(nine), strlen(nine), table, size);
     expect("check accepts", r == 0);
     r = tteolmigu_check(bytes(nine), strlen(nine) - 5, table, size);
@@ -87,6 +253,12 @@ int main(void)
     expect("the customer's line", tteolmigu_list(r) == 1 && tteolmigu_offset(r) == 7 && tteolmigu_length(r) == 5);
     expect("no line", lookup("on", "", "met-al\n") == 0);
     expect("no refusal", lookup("o1", "", "met-al\n") == 0);
+
+    versions();
+    limits_of_words();
+    limits_of_lists();
+    limits_of_tables();
+    limit_of_looks();
 
     printf("%d passed, %d failed\n", passed, failed);
     return failed != 0;

@@ -2,8 +2,15 @@
 //! not yet taken apart.
 //!
 //! They are safe to use, because every pointer and length comes from a slice.
-//! Most programs want the functions at the root of the crate instead; these
-//! are for tests that compare each bit.
+//! Any bytes may be lent as texts and tables, any numbers as margins, and rooms
+//! of any size. `include/tteolmigu.h` says what the bits are and what each call
+//! leaves in its room; [`Ground::of_answer`](crate::Ground::of_answer) reads a
+//! refusal. Most programs want [`Table`](crate::Table) instead; these are for
+//! rooms that somebody else lends, and for tests that compare each bit.
+//!
+//! This is the only module with `unsafe` in it.
+
+#![allow(unsafe_code)]
 
 mod c {
     extern "C" {
@@ -56,7 +63,18 @@ mod c {
     }
 }
 
-/// Marks the breaks of a word in `room`; see [`crate::hyphenate`].
+/// Marks the breaks of a word in `room`. Grounds 1, 5, 2, 4, 3, 8, 6 and 9, in
+/// this order.
+///
+/// ```
+/// use tteolmigu::raw;
+///
+/// let table = [1, 1, 0, 1, 0, 0, 2, 0, 0, 0, 0, 0];
+/// let mut room = [7; 64];
+/// let answer = raw::hyphenate(2, 3, b"metal", b"", b"met-al\n", &table, &mut room);
+/// assert_eq!(answer, 1 << 32); // one break, no looks
+/// assert_eq!(room[..6], [0, 0, 0, 1, 0, 0]);
+/// ```
 pub fn hyphenate(
     left: u64,
     right: u64,
@@ -86,7 +104,18 @@ pub fn hyphenate(
     }
 }
 
-/// Writes the levels of a word's gaps to `room`; see [`crate::levels`].
+/// Writes the levels of a word's gaps to `room`. Grounds 5, 2, 4, 3 and 9, in
+/// this order.
+///
+/// ```
+/// use tteolmigu::raw;
+///
+/// let table = [1, 1, 0, 1, 0, 0, 2, 0, 0, 0, 0, 0];
+/// let mut room = [7; 64];
+/// assert_eq!(raw::levels(b"on", &table, &mut room), 4); // four looks
+/// assert_eq!(room, [0; 64]);
+/// assert_eq!(raw::levels(b"o1", &table, &mut room), 3 << 56 | 1);
+/// ```
 pub fn levels(word: &[u8], table: &[u8], room: &mut [u8]) -> u64 {
     // Safety: as in `hyphenate`.
     unsafe {
@@ -101,7 +130,15 @@ pub fn levels(word: &[u8], table: &[u8], room: &mut [u8]) -> u64 {
     }
 }
 
-/// Packs a pattern list into `room`; see [`crate::pack`].
+/// Packs a pattern list into `room`. Grounds 10, 8, 7 and 11, in this order.
+///
+/// ```
+/// use tteolmigu::{raw, PACK_ROOM};
+///
+/// let mut room = [7; PACK_ROOM];
+/// assert_eq!(raw::pack(b"", &mut room), 12); // the table's length
+/// assert_eq!(raw::pack(b"a", &mut room), 7 << 56);
+/// ```
 pub fn pack(patterns: &[u8], room: &mut [u8]) -> u64 {
     // Safety: as in `hyphenate`.
     unsafe {
@@ -114,7 +151,16 @@ pub fn pack(patterns: &[u8], room: &mut [u8]) -> u64 {
     }
 }
 
-/// Judges whether a table is right for a list; see [`crate::check`].
+/// Judges whether a table is right for a list. Grounds 8, 7, 9 and 12, in this
+/// order.
+///
+/// ```
+/// use tteolmigu::raw;
+///
+/// let table = [1, 1, 0, 1, 0, 0, 2, 0, 0, 0, 0, 0];
+/// assert_eq!(raw::check(b"", &table), 0); // accepted
+/// assert_eq!(raw::check(b"a1\n", &table), 12 << 56);
+/// ```
 pub fn check(patterns: &[u8], table: &[u8]) -> u64 {
     // Safety: as in `hyphenate`; nothing at all is written.
     unsafe {
@@ -127,7 +173,15 @@ pub fn check(patterns: &[u8], table: &[u8]) -> u64 {
     }
 }
 
-/// Finds a word's exception line; see [`crate::lookup`].
+/// Finds a word's exception line. It never refuses.
+///
+/// ```
+/// use tteolmigu::raw;
+///
+/// let answer = raw::lookup(b"metal", b"", b"idler\nmet-al\n");
+/// assert_eq!(answer, 2 << 48 | 6 << 16 | 6); // list, offset, length
+/// assert_eq!(raw::lookup(b"on", b"", b"met-al\n"), 0);
+/// ```
 pub fn lookup(word: &[u8], customer: &[u8], house: &[u8]) -> u64 {
     // Safety: as in `hyphenate`; nothing at all is written.
     unsafe {

@@ -54,6 +54,22 @@ fn read_all(file: i32, bytes: &mut [u8]) -> Read
     }
 }
 
+// The bytes of the file at a path, as many as the buffer takes. Where it can't be opened or read, errno says why.
+fn read_file(path: &[u8], bytes: &mut [u8]) -> Read
+    ensures { λ r. ⌜ r .size ≤ length (now (bytes .exit)) ⌝ }
+{
+    let file = os::open_read(path);
+    if file < 0 {
+        return Read {
+            done: false,
+            size: 0,
+        };
+    }
+    let read = read_all(file, bytes);
+    libc::close(file);
+    read
+}
+
 // The bytes of the file that argument i names, as many as the buffer takes. A missing argument is a file that can't be opened.
 pub fn read_argument(i: usize, bytes: &mut [u8]) -> Read
     ensures { λ r. ⌜ r .size ≤ length (now (bytes .exit)) ⌝ }
@@ -66,21 +82,51 @@ pub fn read_argument(i: usize, bytes: &mut [u8]) -> Read
             size: 0,
         };
     }
-    let file = os::open_read(&path[..n]);
-    if file < 0 {
+    read_file(&path[..n], bytes)
+}
+
+// Tells on standard error what a program could not use, and why, by errno.
+pub fn tell(program: &[u8], what: &[u8]) {
+    io::write_all(libc::STDERR_FILENO, program);
+    io::write_all(libc::STDERR_FILENO, b": ");
+    os::fail(what);
+}
+
+// As read_argument, and tells where the file can't be used.
+pub fn read_or_tell(program: &[u8], i: usize, bytes: &mut [u8]) -> Read
+    ensures { λ r. ⌜ r .size ≤ length (now (bytes .exit)) ⌝ }
+{
+    let mut path = io::buffer();
+    let n = os::arg(i, &mut path);
+    if os::errno() != 0 {
+        tell(program, b"a name");
         return Read {
             done: false,
             size: 0,
         };
     }
-    let read = read_all(file, bytes);
-    libc::close(file);
+    let read = read_file(&path[..n], bytes);
+    if !read.done {
+        tell(program, &path[..n]);
+    }
     read
 }
 
-// A list, a table or a packing is refused: "!", number and place.
-pub fn print_refusal(ground: Ground) {
+// Is argument i an option? These programs have none, so that a name that begins with a hyphen is taken for a slip; "./-x" is a file.
+pub fn is_option(i: usize) -> bool {
+    let mut name = io::buffer();
+    let n = os::arg(i, &mut name);
+    n > 0 && name[0] == words::HYPHEN
+}
+
+// A list, a table or a packing is refused: "!", number and place. Answers whether the line could be written.
+pub fn print_refusal(out: i32, ground: Ground) -> bool {
     let mut line = [0u8; report::LINE_LIMIT];
     let end = report::put_refusal(writing::EXCLAMATION, ground, &mut line, 0);
-    io::write_all(1, &line[0..end]);
+    io::write_all(out, &line[0..end])
+}
+
+// Nothing was done, and no ground says why: a file can't be opened, read or written, or the arguments are wrong.
+pub fn print_undone(out: i32) -> bool {
+    io::write_all(out, b"! 0 0\n")
 }

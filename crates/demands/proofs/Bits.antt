@@ -47,8 +47,8 @@ use Rattle.fit.specs.Table.{Fit, NoRoom, Packed, firstFit}
 use Rattle.packer.specs.declared.Packing.{Packing}
 use Rattle.packer.specs.declared.Packing.the-variants as packings
 use Rattle.packer.specs.Pack.{judgePack, packing, packAnswer}
-use Rattle.capi.specs.Bits.{refusalBits, lineBits, answerBits, packingBits, checkBits, locatedBits, numberIn, listIn, placeIn, marksIn, looksIn, sizeIn, offsetIn, lengthIn}
-use Rattle.capi.proofs.Read.{told-number, told-list, told-place, found-number, found-marks, found-looks, size-number, size-size, line-number, line-list, line-offset, line-length}
+use Rattle.tteolmigu.specs.Bits.{refusalBits, lineBits, answerBits, packingBits, checkBits, locatedBits, numberIn, listIn, placeIn, marksIn, looksIn, sizeIn, offsetIn, lengthIn}
+use Rattle.tteolmigu.proofs.Read.{told-number, told-list, told-place, found-number, found-marks, found-looks, size-number, size-size, line-number, line-list, line-offset, line-length}
 use Rattle.demands.proofs.Packed.{judged-patterns, fit-accepted}
 
 -- What is read of a refusal's bits.

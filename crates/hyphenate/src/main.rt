@@ -12,8 +12,11 @@ const LEFT: usize = 2;
 
 const RIGHT: usize = 3;
 
+// How many files the arguments name.
+const FILES: usize = 3;
+
 // How far the words have come: bytes of the present line that are held, bytes of lines not yet written, and the sums. `stopped`
-// says that nothing more is to be read, `failed` that something could not be read or written.
+// says that nothing more is to be read, `unread` that reading failed, and `lost` that a line could not be written.
 struct State {
     held: usize,
     at: usize,
@@ -21,31 +24,40 @@ struct State {
     refused: u64,
     probes: u64,
     stopped: bool,
-    failed: bool,
+    unread: bool,
+    lost: bool,
 }
 
-// Where the next line goes, and whether a write failed.
+// Where the next line goes, and whether a line is lost.
 struct Space {
     at: usize,
-    failed: bool,
+    lost: bool,
+}
+
+// Writes lines, and answers whether any is lost. Behind a lost one nothing is written any more: what is cut short has no gap inside.
+fn write_lines(lines: &[u8], lost: bool) -> bool {
+    if lost {
+        return true;
+    }
+    if io::write_all(libc::STDOUT_FILENO, lines) {
+        return false;
+    }
+    os::fail(b"hyphenate: standard output");
+    true
 }
 
 // Writes the lines that are ready where another might not fit behind them.
-fn make_space(out: &[u8], at: usize) -> Space
+fn make_space(out: &[u8], at: usize, lost: bool) -> Space
     requires { ⌜ (at ≤ length (now out)) × (lineLimit ≤ length (now out)) ⌝ }
     ensures { λ r. ⌜ r .at + lineLimit ≤ length (now (out .entry)) ⌝ }
 {
     if out.len() - at < report::LINE_LIMIT {
-        let written = io::write_all(1, &out[0..at]);
         return Space {
             at: 0,
-            failed: !written,
+            lost: write_lines(&out[0..at], lost),
         };
     }
-    Space {
-        at: at,
-        failed: false,
-    }
+    Space { at: at, lost: lost }
 }
 
 // A number, and 1 more where a fact holds.
@@ -70,7 +82,7 @@ fn end_line<'a>(
     ensures { λ r. ⌜ Holds r (now (held .entry)) (now (marks .exit)) (now (out .exit)) ⌝ }
 {
     let n = s.held;
-    let space = make_space(out, s.at);
+    let space = make_space(out, s.at, s.lost);
     let line = report::put_word(
         LEFT,
         RIGHT,
@@ -88,8 +100,9 @@ fn end_line<'a>(
         words: std::num::wrapping_add_u64(s.words, 1),
         refused: count_if(s.refused, line.refused),
         probes: std::num::wrapping_add_u64(s.probes, line.looks as u64),
-        stopped: s.stopped || space.failed,
-        failed: s.failed || space.failed,
+        stopped: s.stopped || space.lost,
+        unread: s.unread,
+        lost: space.lost,
     }
 }
 
@@ -159,16 +172,21 @@ fn read_piece<'a>(
     let got = libc::read(0, &mut buffer);
     let n = io::count(got, &buffer);
     let mut next = s;
+    if got < 0 {
+        os::fail(b"hyphenate: standard input");
+        next.stopped = true;
+        next.unread = true;
+        return next;
+    }
     if n == 0 {
         next.stopped = true;
-        next.failed = s.failed || got < 0;
         return next;
     }
     take_piece(&buffer[..n], customer, house, table, held, marks, out, next)
 }
 
-// All words, up to the end of the input. A proved loop has to end, and nothing says that the input does: so it counts its turns
-// down, from a number that no run uses up.
+// All words, up to the end of the input. What is held then is the last word, unless reading failed: nobody knows how that word goes
+// on. A proved loop has to end, and nothing says that the input does: so it counts its turns down, from a number that no run uses up.
 fn take_words<'a>(
     customer: &'a [u8],
     house: &'a [u8],
@@ -190,7 +208,7 @@ fn take_words<'a>(
             turns = 0;
         }
     }
-    if next.held > 0 {
+    if next.held > 0 && !next.unread {
         next = end_line(customer, house, table, held, marks, out, next);
     }
     next
@@ -200,7 +218,7 @@ fn take_words<'a>(
 fn print_sums(words: u64, refused: u64, probes: u64) {
     let mut line = [0u8; report::LINE_LIMIT];
     let end = report::put_sums(words, refused, probes, &mut line, 0);
-    io::write_all(1, &line[0..end]);
+    write_lines(&line[0..end], false);
 }
 
 // The words over judged lists and a packed table. Without the last line the words were not all read or written.
@@ -215,7 +233,8 @@ fn print_words<'a>(customer: &'a [u8], house: &'a [u8], table: &[u8]) {
         refused: 0,
         probes: 0,
         stopped: false,
-        failed: false,
+        unread: false,
+        lost: false,
     };
     let end = take_words(
         customer,
@@ -227,8 +246,8 @@ fn print_words<'a>(customer: &'a [u8], house: &'a [u8], table: &[u8]) {
         start,
     );
     let at = end.at;
-    let written = io::write_all(1, &out[0..at]);
-    if written && !end.failed {
+    let lost = write_lines(&out[0..at], end.lost);
+    if !(lost || end.unread) {
         print_sums(end.words, end.refused, end.probes);
     }
 }
@@ -238,12 +257,12 @@ fn run<'a>(patterns: &[u8], customer: &'a [u8], house: &'a [u8]) {
     let mut room = io::large_buffer();
     let packing = packer::pack(patterns, &mut room);
     if let Packing::Refused(g) = packing {
-        console::print_refusal(g);
+        console::print_refusal(libc::STDOUT_FILENO, g);
         return;
     }
     let judged = lists::judge_lists(customer, house);
     if let Check::Refused(g) = judged {
-        console::print_refusal(g);
+        console::print_refusal(libc::STDOUT_FILENO, g);
         return;
     }
     if let Packing::Done(size) = packing {
@@ -255,6 +274,10 @@ fn run<'a>(patterns: &[u8], customer: &'a [u8], house: &'a [u8]) {
 
 // A file is read with room for one byte more than its limit, so that a longer one is told from one that has just as many.
 fn main() {
+    if os::arg_count() != FILES + 1 {
+        console::print_undone(libc::STDOUT_FILENO);
+        return;
+    }
     let mut patterns = [0u8; base::PATTERN_TEXT + 1];
     let mut customer = [0u8; base::EXCEPTION_TEXT + 1];
     let mut house = [0u8; base::EXCEPTION_TEXT + 1];
@@ -262,7 +285,7 @@ fn main() {
     let second = console::read_argument(2, &mut customer);
     let third = console::read_argument(3, &mut house);
     if !(first.done && second.done && third.done) {
-        io::write_all(1, b"! 0 0\n");
+        console::print_undone(libc::STDOUT_FILENO);
         return;
     }
     let p = first.size;

@@ -1,55 +1,101 @@
-// Packs a pattern list. Its arguments are the pattern file and, if the table is not to go to standard output, the table file.
+// Packs a pattern list. Its arguments are the pattern file and, if the table is not to go to standard output, the table file, which is
+// replaced whole or not at all. A refusal goes to standard output, or to standard error where the table would have gone there; what the
+// system refused, and how the program is called, it tells on standard error.
 use packer::Packing;
 
-// The table into the file that the second argument names.
-fn write_file(table: &[u8]) {
+// How many arguments there are at most, the program's name included: with so many, the last is the table file.
+const ARGUMENTS: usize = 3;
+
+// Where a refusal can't be taken for a table.
+fn refusals() -> i32 {
+    if os::arg_count() < ARGUMENTS {
+        return libc::STDERR_FILENO;
+    }
+    libc::STDOUT_FILENO
+}
+
+// A refusal that can't be written is told.
+fn look_at(written: bool) {
+    if !written {
+        os::fail(b"pack: standard output");
+    }
+}
+
+fn print_table(table: &[u8]) -> bool {
+    let written = io::write_all(libc::STDOUT_FILENO, table);
+    look_at(written);
+    written
+}
+
+fn tell_same(path: &[u8]) {
+    io::write_all(libc::STDERR_FILENO, b"pack: ");
+    io::write_all(libc::STDERR_FILENO, path);
+    io::write_all(libc::STDERR_FILENO, b": it is the list itself\n");
+}
+
+// The table into the file that the second argument names, unless that is the list.
+fn save_table(table: &[u8]) -> bool {
+    let mut list = io::buffer();
+    let l = os::arg(1, &mut list);
     let mut path = io::buffer();
     let n = os::arg(2, &mut path);
     if os::errno() != 0 {
-        io::write_all(1, b"! 0 0\n");
-        return;
+        console::tell(b"pack", b"a name");
+        return false;
     }
-    let file = os::open_overwrite(&path[..n]);
-    if file < 0 {
-        io::write_all(1, b"! 0 0\n");
-        return;
+    if files::is_same(&list[..l], &path[..n]) {
+        tell_same(&path[..n]);
+        return false;
     }
-    if !io::write_all(file, table) {
-        io::write_all(1, b"! 0 0\n");
+    if files::save(&path[..n], table) {
+        return true;
     }
-    libc::close(file);
+    console::tell(b"pack", &path[..n]);
+    false
 }
 
-fn write_table(table: &[u8]) {
-    if os::arg_count() < 3 {
-        io::write_all(1, table);
-        return;
+// The table to where it belongs. Answers whether all of it is there; where not, that was told.
+fn put_table(table: &[u8]) -> bool {
+    if os::arg_count() < ARGUMENTS {
+        return print_table(table);
     }
-    write_file(table);
+    save_table(table)
 }
 
 fn run(patterns: &[u8]) {
     let mut room = io::large_buffer();
     let packing = packer::pack(patterns, &mut room);
     if let Packing::Refused(g) = packing {
-        console::print_refusal(g);
+        look_at(console::print_refusal(refusals(), g));
         return;
     }
     if let Packing::Done(size) = packing {
         if size <= room.len() {
-            write_table(&room[0..size]);
+            if !put_table(&room[0..size]) {
+                look_at(console::print_undone(refusals()));
+            }
         }
     }
 }
 
 // The file is read with room for one byte more than its limit, so that a longer one is told from one that has just as many.
-fn main() {
+fn pack_file() {
     let mut patterns = [0u8; base::PATTERN_TEXT + 1];
-    let read = console::read_argument(1, &mut patterns);
+    let read = console::read_or_tell(b"pack", 1, &mut patterns);
     if !read.done {
-        io::write_all(1, b"! 0 0\n");
+        look_at(console::print_undone(refusals()));
         return;
     }
     let n = read.size;
     run(&patterns[0..n]);
+}
+
+fn main() {
+    let count = os::arg_count();
+    if count < 2 || count > ARGUMENTS || console::is_option(1) || console::is_option(2) {
+        io::write_all(libc::STDERR_FILENO, b"usage: pack LIST [TABLE]\n");
+        look_at(console::print_undone(libc::STDOUT_FILENO));
+        return;
+    }
+    pack_file();
 }

@@ -1,26 +1,42 @@
 // Checks a table with a pattern list. Its arguments are the pattern file and the table file. It writes "accepted", or "!", number
-// and place.
+// and place; what the system refused, and how it is called, it tells on standard error.
 use base::Check;
 
-fn run(patterns: &[u8], table: &[u8]) {
+// How many files the arguments name.
+const FILES: usize = 2;
+
+// What the checker says. Answers whether it could be written, as the functions below do.
+fn print_check(patterns: &[u8], table: &[u8]) -> bool {
     if let Check::Refused(g) = checker::check(patterns, table) {
-        console::print_refusal(g);
-        return;
+        return console::print_refusal(libc::STDOUT_FILENO, g);
     }
-    io::write_all(1, b"accepted\n");
+    io::write_all(libc::STDOUT_FILENO, b"accepted\n")
 }
 
 // Each file is read with room for one byte more than its limit, so that a longer one is told from one that has just as many.
-fn main() {
+fn check_files() -> bool {
     let mut patterns = [0u8; base::PATTERN_TEXT + 1];
     let mut table = [0u8; base::PACK_ROOM + 1];
-    let first = console::read_argument(1, &mut patterns);
-    let second = console::read_argument(2, &mut table);
+    let first = console::read_or_tell(b"verify", 1, &mut patterns);
+    let second = console::read_or_tell(b"verify", 2, &mut table);
     if !(first.done && second.done) {
-        io::write_all(1, b"! 0 0\n");
-        return;
+        return console::print_undone(libc::STDOUT_FILENO);
     }
     let p = first.size;
     let t = second.size;
-    run(&patterns[0..p], &table[0..t]);
+    print_check(&patterns[0..p], &table[0..t])
+}
+
+fn run() -> bool {
+    if os::arg_count() != FILES + 1 || console::is_option(1) || console::is_option(2) {
+        io::write_all(libc::STDERR_FILENO, b"usage: verify LIST TABLE\n");
+        return console::print_undone(libc::STDOUT_FILENO);
+    }
+    check_files()
+}
+
+fn main() {
+    if !run() {
+        os::fail(b"verify: standard output");
+    }
 }

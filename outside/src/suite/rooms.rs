@@ -7,6 +7,7 @@ use outside::lab::{Lab, Mismatch};
 use outside::make::{damage, exceptions, lists, words};
 use outside::reference::{self, EXCEPTION_TEXT_LIMIT, PACK_ROOM, PATTERN_TEXT_LIMIT};
 use outside::rng::Rng;
+use tteolmigu::{any, Breaks, Exceptions, Ground, Levels, Line, List, Margins, Table};
 
 /// Every size that could matter for a room.
 fn sizes_of_rooms() -> impl Iterator<Item = usize> {
@@ -185,15 +186,19 @@ pub fn locked_inputs(run: &mut Run) -> Result<(), Mismatch> {
     })
 }
 
-/// The safe functions say what the 64 bits say.
+/// The safe functions say what the 64 bits and the room say.
 pub fn wrapper(run: &mut Run) -> Result<(), Mismatch> {
-    let nine = Packed::of_text(b"a1b\nb2a\n");
+    let small = Packed::of_text(b"a1b\nb2a\n");
     run.rounds(60_000, |lab, rng| {
         let word = any_word(rng);
         let (customer, house) = (any_exceptions(rng), any_exceptions(rng));
+        let lists = Exceptions {
+            customer: &customer,
+            house: &house,
+        };
         let answer = lab.lookup(&word, &customer, &house)?;
-        let line = tteolmigu::lookup(&word, &customer, &house);
-        demand(line == line_by_answer(answer, &customer, &house), || {
+        let line = lists.lookup(&word);
+        demand(line == line_by_answer(answer, lists), || {
             format!("lookup of {:?} gives {:?}", word, line)
         })?;
         // One text lent as both lists is allowed, since nothing writes to it.
@@ -201,25 +206,52 @@ pub fn wrapper(run: &mut Run) -> Result<(), Mismatch> {
         demand(both == reference::lookup(&word, &house, &house), || {
             format!("lookup of {:?} in one list lent twice", word)
         })?;
-        let size = *rng.pick(&[64, 80, 63]);
-        let answer = lab.hyphenate(1, 2, &word, &customer, &house, &nine.table, size)?;
-        let mut room = vec![0; size];
-        let found = tteolmigu::hyphenate(1, 2, &word, &customer, &house, &nine.table, &mut room);
-        demand(answer_of(found) == answer, || format!("{:?}", found))?;
-        let answer = lab.levels(&word, &nine.table, size)?;
-        let found = tteolmigu::levels(&word, &nine.table, &mut room);
-        demand(answer_of(found) == answer, || format!("{:?}", found))?;
-        let patterns = any_patterns(rng);
-        let answer = lab.check(&patterns, &nine.table)?;
-        let found = tteolmigu::check(&patterns, &nine.table);
-        demand(bits_of(found.map(|()| 0)) == answer, || {
-            format!("{:?}", found)
+        let mut table = small.table.clone();
+        match rng.below(8) {
+            0 => damage::damage_head(rng, &mut table),
+            1 => damage::damage(rng, &mut table),
+            _ => (),
+        }
+        let margin = |rng: &mut Rng| *rng.pick(&[1, 1, 1, 2, 2, 3, 63, 0, 64]);
+        let (left, right) = (margin(rng), margin(rng));
+        let size = *rng.pick(&[80, 63]);
+        let answer = lab.hyphenate(left, right, &word, &customer, &house, &table, size)?;
+        same_refusal(answer)?;
+        let answer = lab.hyphenate(left, right, &word, &customer, &house, &table, 64)?;
+        let margins = Margins::new(left, right);
+        let breaks = margins.and_then(|margins| any::hyphenate(margins, &word, lists, &table));
+        same_breaks(&breaks, answer, lab.room())?;
+        let answer = lab.levels(&word, &table, 64)?;
+        let levels = any::levels(&word, &table);
+        same_levels(&levels, answer, lab.room(), word.len())?;
+
+        let patterns = if rng.once_in(2) {
+            small.text.clone()
+        } else {
+            any_patterns(rng)
+        };
+        let answer = lab.check(&patterns, &table)?;
+        let checked = Table::check(&patterns, &table);
+        demand(bits_of(checked.map(|_| 0)) == answer, || {
+            format!("{:?}", checked)
         })?;
+        if let (Ok(checked), Ok(margins)) = (checked, margins) {
+            let same = checked.bytes() == table
+                && checked.levels(&word) == levels
+                && checked.hyphenate(margins, &word, lists) == breaks;
+            demand(same, || format!("{:?} beside unchecked bytes", checked))?;
+        }
         if rng.once_in(10) {
-            let answer = lab.pack(&patterns, PACK_ROOM)?;
-            let found = tteolmigu::pack(&patterns, &mut vec![0; PACK_ROOM]);
-            let bits = bits_of(found.map(|length| length as u64));
-            demand(bits == answer, || format!("{:?}", found))?;
+            let size = PACK_ROOM + rng.below(4) - 1;
+            let answer = lab.pack(&patterns, size)?;
+            let mut room = vec![0; size];
+            let packed = Table::pack(&patterns, &mut room);
+            let bits = bits_of(packed.map(|table| table.bytes().len() as u64));
+            demand(bits == answer, || format!("{:?}", packed))?;
+            if let Ok(packed) = packed {
+                let same = lab.room().starts_with(packed.bytes());
+                demand(same, || format!("{:?} and the room", packed))?;
+            }
         }
         Ok(())
     })
@@ -283,25 +315,64 @@ pub fn huge_lengths(run: &mut Run) -> Result<(), Mismatch> {
 }
 
 /// A wrapper's result, put together again as bits.
-fn bits_of(result: Result<u64, tteolmigu::Refusal>) -> u64 {
+fn bits_of(result: Result<u64, Ground>) -> u64 {
     match result {
         Ok(finding) => finding,
-        Err(refusal) => (refusal.number as u64) << 56 | (refusal.list as u64) << 48 | refusal.place,
+        Err(ground) => {
+            (ground.number() as u64) << 56 | (ground.list() as u64) << 48 | ground.place()
+        }
     }
 }
 
-/// The same for the calls on one word.
-fn answer_of(result: Result<tteolmigu::Found, tteolmigu::Refusal>) -> u64 {
-    bits_of(result.map(|found| (found.marks as u64) << 32 | found.looks as u64))
+/// A refusal is read from an answer as it stands there.
+fn same_refusal(answer: u64) -> Result<(), Mismatch> {
+    let ground = Ground::of_answer(answer);
+    let bits = ground.map_or(0, |ground| bits_of(Err(ground)));
+    let expected = if answer >> 56 == 0 { 0 } else { answer };
+    demand(bits == expected, || {
+        format!("{:?} of {:#x}", ground, answer)
+    })
+}
+
+/// The breaks are those of the answer and of the room.
+fn same_breaks(breaks: &Result<Breaks, Ground>, answer: u64, room: &[u8]) -> Result<(), Mismatch> {
+    let bits = bits_of(breaks.map(|found| (found.len() as u64) << 32 | found.looks() as u64));
+    let marked = (0..room.len()).filter(|&at| room[at] == 1);
+    let positions = match breaks {
+        Ok(found) => found.iter().eq(marked),
+        Err(_) => true,
+    };
+    demand(bits == answer && positions, || format!("{:?}", breaks))
+}
+
+/// The levels are those of the answer and of the room.
+fn same_levels(
+    levels: &Result<Levels, Ground>,
+    answer: u64,
+    room: &[u8],
+    letters: usize,
+) -> Result<(), Mismatch> {
+    let marks = |found: &Levels| found.as_slice().iter().filter(|&&level| level != 0).count();
+    let bits = bits_of(levels.map(|found| (marks(&found) as u64) << 32 | found.looks() as u64));
+    let same = match levels {
+        Ok(found) => found.as_slice() == &room[1..letters],
+        Err(_) => true,
+    };
+    demand(bits == answer && same, || format!("{:?}", levels))
 }
 
 /// The line that an answer names.
-fn line_by_answer<'a>(answer: u64, customer: &'a [u8], house: &'a [u8]) -> &'a [u8] {
-    let start = (answer >> 16) as u32 as usize;
+fn line_by_answer(answer: u64, lists: Exceptions<'_>) -> Option<Line<'_>> {
+    let offset = (answer >> 16) as u32 as usize;
     let length = answer as u16 as usize;
-    match answer >> 48 {
-        1 => &customer[start..start + length],
-        2 => &house[start..start + length],
-        _ => &[],
-    }
+    let (list, text) = match answer >> 48 {
+        1 => (List::Customer, lists.customer),
+        2 => (List::House, lists.house),
+        _ => return None,
+    };
+    Some(Line {
+        list,
+        offset,
+        bytes: &text[offset..offset + length],
+    })
 }

@@ -1,0 +1,166 @@
+// The C interface: the five calls, each answer as one number of 64 bits. include/tteolmigu.h declares them.
+use base::Check;
+use base::Ground;
+use hyphenation::Answer;
+use lookup::Located;
+use packer::Packing;
+ghost use mathlib.Core.Path.{_≡_};
+ghost use Prim.Native.Nat.{_-_};
+ghost use lib.ListN.{length};
+ghost use Rattle.lookup.specs.Lookup.{locate};
+ghost use Rattle.rightness.specs.Test.{judgeCheck};
+ghost use Rattle.hyphenation.specs.Calls.{levelsAnswer, levelsRoom, breaksAnswer, breaksRoom};
+ghost use Rattle.packer.specs.Pack.{packAnswer, packLeaves};
+ghost use Rattle.tteolmigu.specs.Bits.{bitsAt, toldBits, refusalBits, foundBits, lineBits, answerBits, packingBits, checkBits, locatedBits};
+
+// The bits of a refusal's number, list and place.
+fn told_bits(number: usize, list: usize, place: usize) -> u64
+    ensures { λ r. ⌜ r ≡ toldBits number list place ⌝ }
+{
+    let high = number as u64 % 256;
+    let middle = list as u64 % 256;
+    let low = place as u64 % 281474976710656;
+    high * 72057594037927936 + middle * 281474976710656 + low
+}
+
+// The bits of a refusal.
+fn refusal_bits(ground: Ground) -> u64
+    ensures { λ r. ⌜ r ≡ refusalBits ground ⌝ }
+{
+    let number = base::number_of(ground);
+    let list = base::list_of(ground);
+    let place = base::place_of(ground);
+    told_bits(number, list, place)
+}
+
+// The bits of a finding of the levels call or the hyphenating call.
+fn found_bits(marks: usize, looks: usize) -> u64
+    ensures { λ r. ⌜ r ≡ foundBits marks looks ⌝ }
+{
+    let high = marks as u64 % 65536;
+    let low = looks as u64 % 4294967296;
+    high * 4294967296 + low
+}
+
+// How many bytes lie between two offsets.
+fn length_of(start: usize, end: usize) -> usize
+    ensures { λ r. ⌜ r ≡ end - start ⌝ }
+{
+    if end < start {
+        return 0;
+    }
+    end - start
+}
+
+// The bits of a line that the lookup found.
+fn line_bits(list: usize, start: usize, end: usize) -> u64
+    ensures { λ r. ⌜ r ≡ lineBits list start end ⌝ }
+{
+    let size = length_of(start, end) as u64 % 65536;
+    let which = list as u64 % 256;
+    let offset = start as u64 % 4294967296;
+    which * 281474976710656 + offset * 65536 + size
+}
+
+fn answer_bits(answer: Answer) -> u64
+    ensures { λ r. ⌜ r ≡ answerBits answer ⌝ }
+{
+    match answer {
+        Answer::Found { marks, looks } => found_bits(marks, looks),
+        Answer::Refused(g) => refusal_bits(g),
+    }
+}
+
+// The bits of a length.
+fn size_bits(size: usize) -> u64
+    ensures { λ r. ⌜ r ≡ bitsAt 0 48 size ⌝ }
+{
+    size as u64 % 281474976710656
+}
+
+fn packing_bits(packing: Packing) -> u64
+    ensures { λ r. ⌜ r ≡ packingBits packing ⌝ }
+{
+    match packing {
+        Packing::Done(size) => size_bits(size),
+        Packing::Refused(g) => refusal_bits(g),
+    }
+}
+
+fn check_bits(check: Check) -> u64
+    ensures { λ r. ⌜ r ≡ checkBits check ⌝ }
+{
+    match check {
+        Check::Fine => 0,
+        Check::Refused(g) => refusal_bits(g),
+    }
+}
+
+fn located_bits(at: Located) -> u64
+    ensures { λ r. ⌜ r ≡ locatedBits at ⌝ }
+{
+    match at {
+        Located::Customer { start, end } => line_bits(base::CUSTOMER_LIST, start, end),
+        Located::House { start, end } => line_bits(base::HOUSE_LIST, start, end),
+        Located::Nowhere => 0,
+    }
+}
+
+// The hyphenating call.
+#[no_mangle]
+pub extern "C" fn tteolmigu_hyphenate<'a>(
+    left: u64,
+    right: u64,
+    word: &[u8],
+    customer: &'a [u8],
+    house: &'a [u8],
+    table: &[u8],
+    room: &mut [u8],
+) -> u64
+    ensures bits { λ r. ⌜ r ≡ answerBits (breaksAnswer left right (now (word .entry)) (now (customer .entry)) (now (house .entry)) (now (table .entry)) (length (now (room .entry)))) ⌝ }
+    ensures memory { λ r. ⌜ now (room .exit) ≡ breaksRoom left right (now (word .entry)) (now (customer .entry)) (now (house .entry)) (now (table .entry)) (now (room .entry)) ⌝ }
+{
+    answer_bits(hyphenation::hyphenate(
+        left as usize,
+        right as usize,
+        word,
+        customer,
+        house,
+        table,
+        room,
+    ))
+}
+
+// The levels call.
+#[no_mangle]
+pub extern "C" fn tteolmigu_levels(word: &[u8], table: &[u8], room: &mut [u8]) -> u64
+    ensures bits { λ r. ⌜ r ≡ answerBits (levelsAnswer (now (word .entry)) (now (table .entry)) (length (now (room .entry)))) ⌝ }
+    ensures memory { λ r. ⌜ now (room .exit) ≡ levelsRoom (now (word .entry)) (now (table .entry)) (now (room .entry)) ⌝ }
+{
+    answer_bits(hyphenation::levels(word, table, room))
+}
+
+// The packer.
+#[no_mangle]
+pub extern "C" fn tteolmigu_pack(patterns: &[u8], room: &mut [u8]) -> u64
+    ensures bits { λ r. ⌜ r ≡ packingBits (packAnswer (now (patterns .entry)) (length (now (room .entry)))) ⌝ }
+    ensures memory { λ r. ⌜ now (room .exit) ≡ packLeaves (now (patterns .entry)) (now (room .entry)) ⌝ }
+{
+    packing_bits(packer::pack(patterns, room))
+}
+
+// The checker.
+#[no_mangle]
+pub extern "C" fn tteolmigu_check(patterns: &[u8], table: &[u8]) -> u64
+    ensures { λ r. ⌜ r ≡ checkBits (judgeCheck (now (patterns .entry)) (now (table .entry))) ⌝ }
+{
+    check_bits(checker::check(patterns, table))
+}
+
+// The lookup.
+#[no_mangle]
+pub extern "C" fn tteolmigu_lookup(word: &[u8], customer: &[u8], house: &[u8]) -> u64
+    ensures { λ r. ⌜ r ≡ locatedBits (locate (now (word .entry)) (now (customer .entry)) (now (house .entry))) ⌝ }
+{
+    located_bits(lookup::locate_line(word, customer, house))
+}

@@ -1,0 +1,103 @@
+//! How the 64 bits of an answer are read, as `include/tteolmigu.h` lays them
+//! out.
+
+#![forbid(unsafe_code)]
+
+use crate::{Exceptions, Ground, Line, List};
+
+/// The bits `from` up to, but without, `to` of an answer.
+pub(crate) fn bits(answer: u64, from: u32, to: u32) -> u64 {
+    (answer >> from) & ((1 << (to - from)) - 1)
+}
+
+/// The same as a size. One that the machine can't count to is none that
+/// anything here could have, and so is the greatest.
+fn size_bits(answer: u64, from: u32, to: u32) -> usize {
+    usize::try_from(bits(answer, from, to)).unwrap_or(usize::MAX)
+}
+
+/// Parts findings from refusals.
+pub(crate) fn finding(answer: u64) -> Result<u64, Ground> {
+    match Ground::of_answer(answer) {
+        Some(ground) => Err(ground),
+        None => Ok(answer),
+    }
+}
+
+/// Of a finding of hyphenate or levels: how many cells were looked at.
+pub(crate) fn looks(finding: u64) -> u32 {
+    bits(finding, 0, 32) as u32
+}
+
+/// Of a finding of pack: the table's length.
+pub(crate) fn size(finding: u64) -> usize {
+    size_bits(finding, 0, 48)
+}
+
+/// The line that a lookup's answer names. Offset and length are checked, not
+/// trusted: where they don't fit the list, there is no line.
+pub(crate) fn line(answer: u64, exceptions: Exceptions<'_>) -> Option<Line<'_>> {
+    let (list, text) = match bits(answer, 48, 64) {
+        1 => (List::Customer, exceptions.customer),
+        2 => (List::House, exceptions.house),
+        _ => return None,
+    };
+    let offset = size_bits(answer, 16, 48);
+    let end = offset.checked_add(size_bits(answer, 0, 16))?;
+    let bytes = text.get(offset..end)?;
+    Some(Line {
+        list,
+        offset,
+        bytes,
+    })
+}
+
+#[cfg(test)]
+mod tests {
+    use super::*;
+
+    #[test]
+    fn a_finding_is_taken_apart() {
+        let answer = (7 << 32) | 1_000;
+        assert_eq!(finding(answer), Ok(answer));
+        assert_eq!(looks(answer), 1_000);
+        assert_eq!(looks(7 << 32 | 0xffff_ffff), 0xffff_ffff);
+        assert_eq!(size(59_398), 59_398);
+        assert_eq!(size(0xffff_ffff_ffff), 0xffff_ffff_ffff);
+    }
+
+    #[test]
+    fn a_refusal_is_no_finding() {
+        assert_eq!(finding(2 << 56), Err(Ground::WordEmpty));
+        assert_eq!(
+            finding((6 << 56) | (2 << 48) | 8_190),
+            Err(Ground::BadException {
+                list: List::House,
+                offset: 8_190
+            })
+        );
+    }
+
+    #[test]
+    fn a_line_outside_its_list_is_never_cut() {
+        let lists = Exceptions {
+            customer: b"ab\n",
+            house: b"a-b\nc\n",
+        };
+        let answer = |list: u64, start: u64, length: u64| list << 48 | start << 16 | length;
+        let told = |list, start, length| {
+            line(answer(list, start, length), lists)
+                .map(|line| (line.list, line.offset, line.bytes))
+        };
+        assert_eq!(told(1, 0, 2), Some((List::Customer, 0, &b"ab"[..])));
+        assert_eq!(told(2, 0, 3), Some((List::House, 0, &b"a-b"[..])));
+        assert_eq!(told(2, 4, 1), Some((List::House, 4, &b"c"[..])));
+        assert_eq!(told(2, 4, 3), None);
+        assert_eq!(told(1, 4, 1), None);
+        assert_eq!(told(1, 1 << 31, 2), None);
+        assert_eq!(told(1, 0xffff_ffff, 0xffff), None);
+        assert_eq!(told(3, 0, 2), None);
+        assert_eq!(told(0, 0, 2), None);
+        assert_eq!(line(1 << 56 | answer(1, 0, 2), lists), None);
+    }
+}
