@@ -70,21 +70,6 @@ fn read_file(path: &[u8], bytes: &mut [u8]) -> Read
     read
 }
 
-// The bytes of the file that argument i names, as many as the buffer takes. A missing argument is a file that can't be opened.
-pub fn read_argument(i: usize, bytes: &mut [u8]) -> Read
-    ensures { λ r. ⌜ r .size ≤ length (now (bytes .exit)) ⌝ }
-{
-    let mut path = io::buffer();
-    let n = os::arg(i, &mut path);
-    if os::errno() != 0 {
-        return Read {
-            done: false,
-            size: 0,
-        };
-    }
-    read_file(&path[..n], bytes)
-}
-
 // Tells on standard error what a program could not use, and why, by errno.
 pub fn tell(program: &[u8], what: &[u8]) {
     io::write_all(libc::STDERR_FILENO, program);
@@ -92,21 +77,24 @@ pub fn tell(program: &[u8], what: &[u8]) {
     os::fail(what);
 }
 
-// As read_argument, and tells where the file can't be used.
-pub fn read_or_tell(program: &[u8], i: usize, bytes: &mut [u8]) -> Read
+// The bytes of the file that argument i names, as many as the buffer takes. A missing argument is a file that can't be opened. Where the
+// file can't be used, a program that tells says why: document 01 lets `hyphenate` write "! 0 0" there and nothing else.
+pub fn read_argument(program: &[u8], tells: bool, i: usize, bytes: &mut [u8]) -> Read
     ensures { λ r. ⌜ r .size ≤ length (now (bytes .exit)) ⌝ }
 {
     let mut path = io::buffer();
     let n = os::arg(i, &mut path);
     if os::errno() != 0 {
-        tell(program, b"a name");
+        if tells {
+            tell(program, b"a name");
+        }
         return Read {
             done: false,
             size: 0,
         };
     }
     let read = read_file(&path[..n], bytes);
-    if !read.done {
+    if tells && !read.done {
         tell(program, &path[..n]);
     }
     read
@@ -119,14 +107,21 @@ pub fn is_option(i: usize) -> bool {
     n > 0 && name[0] == words::HYPHEN
 }
 
-// A list, a table or a packing is refused: "!", number and place. Answers whether the line could be written.
-pub fn print_refusal(out: i32, ground: Ground) -> bool {
+// Writes a line. Where it can't be written, that is told.
+pub fn print(program: &[u8], out: i32, line: &[u8]) {
+    if !io::write_all(out, line) {
+        tell(program, b"standard output");
+    }
+}
+
+// A list, a table or a packing is refused: "!", number and place.
+pub fn print_refusal(program: &[u8], out: i32, ground: Ground) {
     let mut line = [0u8; report::LINE_LIMIT];
     let end = report::put_refusal(writing::EXCLAMATION, ground, &mut line, 0);
-    io::write_all(out, &line[0..end])
+    print(program, out, &line[0..end]);
 }
 
 // Nothing was done, and no ground says why: a file can't be opened, read or written, or the arguments are wrong.
-pub fn print_undone(out: i32) -> bool {
-    io::write_all(out, b"! 0 0\n")
+pub fn print_undone(program: &[u8], out: i32) {
+    print(program, out, b"! 0 0\n");
 }

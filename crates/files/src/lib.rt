@@ -2,12 +2,11 @@
 // are on the disk does that one take the name. No contract can speak of files; the order of the steps is what tests/programs sees.
 mod status;
 
-ghost use Prim.Native.Nat.{_≤_};
-ghost use lib.ListN.{length};
 ghost use Rattle.io.specs.Counts.{Counts};
 use status::Status;
 
-// The name of the file that is not yet whole: ".tteolmigu-", whose 11 bytes say whose it is where a killed run left it, and 8 letters.
+// The bytes of a fresh name: 11 that say whose file it is where a killed run left it, and 8 letters, which another run has only by
+// chance.
 const NAME_SIZE: usize = 19;
 
 // More links than any path goes through.
@@ -64,27 +63,6 @@ fn fill(file: i32, bytes: &[u8], old: Status) -> bool {
     io::write_all(file, bytes) && keep_rights(file, old) && libc::fsync(file) == 0
 }
 
-// Letters that another run has only by chance.
-fn pick_letters(letters: &mut [u8]) -> bool {
-    if libc::getentropy(letters) != 0 {
-        return false;
-    }
-    let mut i = 0;
-    while i < letters.len() {
-        letters[i] = b'a' + letters[i] % 26;
-        i += 1;
-    }
-    true
-}
-
-// A name that no other file has, but by chance.
-fn put_fresh(name: &mut [u8]) -> bool
-    requires { ⌜ 11 ≤ length (now name) ⌝ }
-{
-    let start = writing::put_text(b".tteolmigu-", name, 0);
-    pick_letters(&mut name[start..])
-}
-
 // A new file and its name's size.
 struct Made {
     file: i32,
@@ -96,9 +74,10 @@ fn make_beside(path: &[u8], room: &mut [u8]) -> Made
     ensures { λ r. ⌜ Counts (r .size) (now (room .exit)) ⌝ }
 {
     let mut name = [0u8; NAME_SIZE];
-    if !put_fresh(&mut name) {
+    if libc::getentropy(&mut name) != 0 {
         return Made { file: -1, size: 0 };
     }
+    paths::put_fresh(&mut name);
     let size = paths::put_beside(path, &name, room);
     Made {
         file: os::create(&room[..size]),

@@ -42,7 +42,7 @@ fn write_lines(lines: &[u8], lost: bool) -> bool {
     if io::write_all(libc::STDOUT_FILENO, lines) {
         return false;
     }
-    os::fail(b"hyphenate: standard output");
+    console::tell(b"hyphenate", b"standard output");
     true
 }
 
@@ -173,7 +173,7 @@ fn read_piece<'a>(
     let n = io::count(got, &buffer);
     let mut next = s;
     if got < 0 {
-        os::fail(b"hyphenate: standard input");
+        console::tell(b"hyphenate", b"standard input");
         next.stopped = true;
         next.unread = true;
         return next;
@@ -257,12 +257,12 @@ fn run<'a>(patterns: &[u8], customer: &'a [u8], house: &'a [u8]) {
     let mut room = io::large_buffer();
     let packing = packer::pack(patterns, &mut room);
     if let Packing::Refused(g) = packing {
-        console::print_refusal(libc::STDOUT_FILENO, g);
+        console::print_refusal(b"hyphenate", libc::STDOUT_FILENO, g);
         return;
     }
     let judged = lists::judge_lists(customer, house);
     if let Check::Refused(g) = judged {
-        console::print_refusal(libc::STDOUT_FILENO, g);
+        console::print_refusal(b"hyphenate", libc::STDOUT_FILENO, g);
         return;
     }
     if let Packing::Done(size) = packing {
@@ -275,17 +275,17 @@ fn run<'a>(patterns: &[u8], customer: &'a [u8], house: &'a [u8]) {
 // A file is read with room for one byte more than its limit, so that a longer one is told from one that has just as many.
 fn main() {
     if os::arg_count() != FILES + 1 {
-        console::print_undone(libc::STDOUT_FILENO);
+        console::print_undone(b"hyphenate", libc::STDOUT_FILENO);
         return;
     }
     let mut patterns = [0u8; base::PATTERN_TEXT + 1];
     let mut customer = [0u8; base::EXCEPTION_TEXT + 1];
     let mut house = [0u8; base::EXCEPTION_TEXT + 1];
-    let first = console::read_argument(1, &mut patterns);
-    let second = console::read_argument(2, &mut customer);
-    let third = console::read_argument(3, &mut house);
+    let first = console::read_argument(b"hyphenate", false, 1, &mut patterns);
+    let second = console::read_argument(b"hyphenate", false, 2, &mut customer);
+    let third = console::read_argument(b"hyphenate", false, 3, &mut house);
     if !(first.done && second.done && third.done) {
-        console::print_undone(libc::STDOUT_FILENO);
+        console::print_undone(b"hyphenate", libc::STDOUT_FILENO);
         return;
     }
     let p = first.size;

@@ -14,17 +14,12 @@ fn refusals() -> i32 {
     libc::STDOUT_FILENO
 }
 
-// A refusal that can't be written is told.
-fn look_at(written: bool) {
-    if !written {
-        os::fail(b"pack: standard output");
-    }
-}
-
 fn print_table(table: &[u8]) -> bool {
-    let written = io::write_all(libc::STDOUT_FILENO, table);
-    look_at(written);
-    written
+    if io::write_all(libc::STDOUT_FILENO, table) {
+        return true;
+    }
+    console::tell(b"pack", b"standard output");
+    false
 }
 
 fn tell_same(path: &[u8]) {
@@ -66,13 +61,13 @@ fn run(patterns: &[u8]) {
     let mut room = io::large_buffer();
     let packing = packer::pack(patterns, &mut room);
     if let Packing::Refused(g) = packing {
-        look_at(console::print_refusal(refusals(), g));
+        console::print_refusal(b"pack", refusals(), g);
         return;
     }
     if let Packing::Done(size) = packing {
         if size <= room.len() {
             if !put_table(&room[0..size]) {
-                look_at(console::print_undone(refusals()));
+                console::print_undone(b"pack", refusals());
             }
         }
     }
@@ -81,9 +76,9 @@ fn run(patterns: &[u8]) {
 // The file is read with room for one byte more than its limit, so that a longer one is told from one that has just as many.
 fn pack_file() {
     let mut patterns = [0u8; base::PATTERN_TEXT + 1];
-    let read = console::read_or_tell(b"pack", 1, &mut patterns);
+    let read = console::read_argument(b"pack", true, 1, &mut patterns);
     if !read.done {
-        look_at(console::print_undone(refusals()));
+        console::print_undone(b"pack", refusals());
         return;
     }
     let n = read.size;
@@ -94,7 +89,7 @@ fn main() {
     let count = os::arg_count();
     if count < 2 || count > ARGUMENTS || console::is_option(1) || console::is_option(2) {
         io::write_all(libc::STDERR_FILENO, b"usage: pack LIST [TABLE]\n");
-        look_at(console::print_undone(libc::STDOUT_FILENO));
+        console::print_undone(b"pack", libc::STDOUT_FILENO);
         return;
     }
     pack_file();

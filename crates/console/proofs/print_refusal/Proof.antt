@@ -7,7 +7,7 @@ use Rattle.console.proofs.print_refusal.Statement.{statement}
 use Rattle.console.proofs.print_refusal.Tie as tie
 
 put-refusal-requires : tie.Need-put-refusal-requires
-put-refusal-requires c κs = refusal-fits exclamation (c .before .args .ground) 0 lineLimit (omega arith)
+put-refusal-requires c κs = refusal-fits exclamation (c .before .before .args .ground) 0 lineLimit (omega arith)
 
 pub print-refusal-spec : {M : Type 1} → statement M
 print-refusal-spec =

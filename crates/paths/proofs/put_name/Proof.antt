@@ -8,7 +8,10 @@ returns : tie.Need-returns
 returns c = name-long _ _ _ (omega (arith, c .if1 .taken))
 
 returns-2 : tie.Need-returns-2
-returns-2 c = name-fits _ _ _ (c .before .before .put-text .ensures)
+returns-2 c = name-long _ _ _ (omega (arith, c .before .if1 .left, c .if2 .taken))
+
+returns-3 : tie.Need-returns-3
+returns-3 c = name-fits _ _ _ (c .before .before .put-text .ensures)
 
 pub put-name-spec : {M : Type 1} → statement M
-put-name-spec = tie.close (tie.spec (λ c. search needs) returns (λ c κs. search needs) (λ c. search needs) returns-2)
+put-name-spec = tie.close (tie.spec returns (λ c. search needs) returns-2 (λ c κs. search needs) (λ c. search needs) returns-3)
