@@ -54,7 +54,7 @@ extern "C" {
 
 /* The version of this header and of the library that it declares. A later one has a greater TTEOLMIGU_VERSION. */
 #define TTEOLMIGU_VERSION_MAJOR 1
-#define TTEOLMIGU_VERSION_MINOR 0
+#define TTEOLMIGU_VERSION_MINOR 1
 #define TTEOLMIGU_VERSION_PATCH 0
 #define TTEOLMIGU_VERSION (TTEOLMIGU_VERSION_MAJOR * 1000000 + TTEOLMIGU_VERSION_MINOR * 1000 + TTEOLMIGU_VERSION_PATCH)
 
@@ -108,10 +108,11 @@ enum tteolmigu_ground {
 };
 
 /*
- * Breaks a word. The customer's exception line decides, else the house line, else the odd levels of the table inside the margins.
- * Grounds 1, 5, 2, 4, 3, 8, 6, 9, in this order. A finding sets byte i of the room to 1 where a break lies after letter i, the other
- * bytes up to 63 to 0, and leaves later ones alone. tteolmigu_marks has the number of breaks, tteolmigu_looks the cells looked at (0
- * where an exception line decides).
+ * Breaks a word. The customer's exception line decides, else the house line, else the odd levels of the table. The margins bind all
+ * three: no break has fewer than 'left' letters before it or fewer than 'right' behind it. A line decides even where they leave none
+ * of its hyphens. Grounds 1, 5, 2, 4, 3, 8, 6, 9, in this order. A finding sets byte i of the room to 1 where a break lies after letter
+ * i, the other bytes up to 63 to 0, and leaves later ones alone. tteolmigu_marks has the number of breaks, tteolmigu_looks the cells
+ * looked at (0 where an exception line decides).
  */
 uint64_t tteolmigu_hyphenate(uint64_t left, uint64_t right,
                              const uint8_t *word, size_t word_size,
@@ -144,9 +145,10 @@ uint64_t tteolmigu_check(const uint8_t *patterns, size_t patterns_size,
                          const uint8_t *table, size_t table_size);
 
 /*
- * Where a word's exception line stands, the customer's before the house's. It never refuses: where there is no line, and where the
- * hyphenating call would refuse on ground 2, 4, 3, 8 or 6, it returns 0. Else tteolmigu_list has the list that holds the line,
- * tteolmigu_offset the line's offset in it and tteolmigu_length its length without the line feed.
+ * Where a word's exception line stands, the customer's before the house's, as it is written: margins don't come into it. It never
+ * refuses: where there is no line, and where the hyphenating call would refuse on ground 2, 4, 3, 8 or 6, it returns 0. Else
+ * tteolmigu_list has the list that holds the line, tteolmigu_offset the line's offset in it and tteolmigu_length its length without
+ * the line feed.
  */
 uint64_t tteolmigu_lookup(const uint8_t *word, size_t word_size,
                           const uint8_t *customer, size_t customer_size,

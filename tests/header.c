@@ -205,6 +205,7 @@ int main(void)
     const char *nine = "he2n\nhena4\nhen5at\nhy3ph\n2io\n1na\nn2at\no2n\n1tio\n";
     const uint8_t breaks[] = {0, 0, 1, 0, 0, 0, 1, 0, 0, 0, 0, 0};
     const uint8_t levels[] = {0, 0, 3, 0, 0, 2, 5, 4, 2, 0, 2, 0};
+    const uint8_t zeros[TTEOLMIGU_ROOM] = {0};
     uint64_t r;
     size_t size;
 
@@ -230,8 +231,14 @@ int main(void)
     r = tteolmigu_levels(bytes("hyphenation"), 11, table, size, room, sizeof room);
     expect("levels finds", tteolmigu_number(r) == 0 && tteolmigu_marks(r) == 6 && tteolmigu_looks(r) == 27);
     expect("its levels", memcmp(room, levels, sizeof levels) == 0);
-    r = hyphenate(2, 3, "metal", "", "met-al\n", size);
+    r = hyphenate(2, 2, "metal", "", "met-al\n", size);
     expect("a house line", tteolmigu_marks(r) == 1 && tteolmigu_looks(r) == 0 && room[3] == 1);
+    r = hyphenate(2, 3, "metal", "", "met-al\n", size);
+    expect("a house line and a right margin", r == 0 && memcmp(room, zeros, sizeof zeros) == 0);
+    r = hyphenate(4, 1, "metal", "met-al\n", "meta-l\n", size);
+    expect("a customer's line and a left margin", r == 0 && memcmp(room, zeros, sizeof zeros) == 0);
+    r = lookup("metal", "", "met-al\n");
+    expect("which is looked up as it is written", tteolmigu_list(r) == 2 && tteolmigu_length(r) == 6);
     r = hyphenate(0, 3, "on", "", "", size);
     expect("a margin of 0", tteolmigu_number(r) == TTEOLMIGU_MARGIN);
     r = hyphenate(UINT64_C(0xffffffffffffffff), 3, "on", "", "", size);

@@ -246,10 +246,12 @@ fn try_hyphenate(
     };
     let mut gap = 0;
     let mut count = 0u64;
+    let letters = row.letters as u64;
     for &byte in line {
         if byte == b'-' {
-            marks[gap] = 1;
-            count += 1;
+            let counts = left <= gap && gap + right <= letters;
+            marks[gap as usize & 63] = counts as u8;
+            count += counts as u64;
         } else {
             gap += 1;
         }

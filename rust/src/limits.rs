@@ -15,7 +15,7 @@ pub const VERSION_MAJOR: u32 = 1;
 /// ```
 /// assert!(tteolmigu::VERSION_MINOR < 1_000);
 /// ```
-pub const VERSION_MINOR: u32 = 0;
+pub const VERSION_MINOR: u32 = 1;
 
 /// The third number of the version.
 ///

@@ -4,8 +4,8 @@
 
 use crate::{Ground, MARGIN_LEAST, MARGIN_LIMIT};
 
-/// How many letters stand at least before a break and behind it, where the
-/// patterns decide. An exception line stands whole, whatever the margins.
+/// How many letters stand at least before a break and behind it, whether an
+/// exception line names it or the patterns do.
 ///
 /// Both are within [`MARGIN_LEAST`] and [`MARGIN_LIMIT`], so that no call
 /// refuses them.

@@ -63,17 +63,21 @@ mod c {
     }
 }
 
-/// Marks the breaks of a word in `room`. Grounds 1, 5, 2, 4, 3, 8, 6 and 9, in
-/// this order.
+/// Marks the breaks of a word in `room`, those that an exception line names and
+/// those of the levels alike inside the margins. Grounds 1, 5, 2, 4, 3, 8, 6 and
+/// 9, in this order.
 ///
 /// ```
 /// use tteolmigu::raw;
 ///
 /// let table = [1, 1, 0, 1, 0, 0, 2, 0, 0, 0, 0, 0];
 /// let mut room = [7; 64];
-/// let answer = raw::hyphenate(2, 3, b"metal", b"", b"met-al\n", &table, &mut room);
+/// let answer = raw::hyphenate(2, 2, b"metal", b"", b"met-al\n", &table, &mut room);
 /// assert_eq!(answer, 1 << 32); // one break, no looks
 /// assert_eq!(room[..6], [0, 0, 0, 1, 0, 0]);
+/// let answer = raw::hyphenate(2, 3, b"metal", b"", b"met-al\n", &table, &mut room);
+/// assert_eq!(answer, 0); // only two letters stand behind the hyphen
+/// assert_eq!(room, [0; 64]);
 /// ```
 pub fn hyphenate(
     left: u64,

@@ -91,9 +91,10 @@ impl<'a> Table<'a> {
     /// Breaks a word.
     ///
     /// The customer's exception line decides, else the house line, else the odd
-    /// levels of the table inside the margins. The library judges both
-    /// exception lists in every call, so that long ones cost more than the
-    /// word.
+    /// levels of the table. The margins bind all three: no break has fewer
+    /// letters before it or behind it than they say. A line decides even if
+    /// none of its hyphens is left so. The library judges both exception lists
+    /// in every call, so that long ones cost more than the word.
     ///
     /// ```
     /// use tteolmigu::{Exceptions, Ground, Margins, Table, PACK_ROOM};
@@ -103,8 +104,10 @@ impl<'a> Table<'a> {
     /// let lists = Exceptions { customer: b"", house: b"met-al\n" };
     /// let breaks = table.hyphenate(Margins::USUAL, b"Nation", lists)?;
     /// assert!(breaks.iter().eq([2]));
-    /// let breaks = table.hyphenate(Margins::USUAL, b"Metal", lists)?;
+    /// let breaks = table.hyphenate(Margins::new(2, 2)?, b"Metal", lists)?;
     /// assert!(breaks.iter().eq([3]));
+    /// let breaks = table.hyphenate(Margins::USUAL, b"Metal", lists)?;
+    /// assert!(breaks.is_empty()); // "al" is too short for a right margin of 3
     ///
     /// let refused = table.hyphenate(Margins::USUAL, b"", lists);
     /// assert_eq!(refused, Err(Ground::WordEmpty));
@@ -331,6 +334,41 @@ mod tests {
         assert_eq!(found(2, 3, Exceptions { customer, house }), [6]);
         let customer = b"";
         assert_eq!(found(2, 3, Exceptions { customer, house }), [2]);
+    }
+
+    #[test]
+    fn margins_bind_exception_lines() {
+        let bytes = nine();
+        let table = Table::check(NINE, &bytes).unwrap();
+        let found = |left, right, customer, house| {
+            let margins = Margins::new(left, right).unwrap();
+            let lists = Exceptions { customer, house };
+            let breaks = table.hyphenate(margins, b"hyphenation", lists).unwrap();
+            assert_eq!(breaks.looks(), 0);
+            breaks.iter().collect::<Vec<_>>()
+        };
+        let line: &[u8] = b"hy-phe-na-ti-on\n";
+        let rival: &[u8] = b"h-yphenatio-n\n";
+        for (left, right, breaks) in [
+            (1, 1, &[2, 5, 7, 9][..]),
+            (2, 2, &[2, 5, 7, 9]),
+            (2, 3, &[2, 5, 7]),
+            (3, 2, &[5, 7, 9]),
+            (5, 4, &[5, 7]),
+            (6, 5, &[]),
+            (63, 63, &[]),
+        ] {
+            assert_eq!(found(left, right, line, rival), breaks);
+            assert_eq!(found(left, right, b"", line), breaks);
+        }
+        // A line decides even where the margins leave none of its hyphens.
+        assert_eq!(found(2, 2, rival, line), []);
+        let lists = Exceptions {
+            customer: rival,
+            house: line,
+        };
+        let shown = lists.lookup(b"hyphenation").unwrap();
+        assert_eq!(shown.bytes, b"h-yphenatio-n");
     }
 
     #[test]

@@ -103,7 +103,7 @@ module _ (patterns : List Pattern) (cells entries : List ℕ) (root : ℕ) (path
 
       pub same-break : (customer house : List ℕ) (i : ℕ) → isBreak left right customer house (levelAt cells entries root word) word i ≡ isBreak left right customer house (liang patterns word) word i
       unfolding isBreak
-      same-break customer house i = break-same (findEither word customer house) (findEither word customer house) customer house _ _ i refl (same-level i)
+      same-break customer house i = break-same (findEither word customer house) (findEither word customer house) customer house _ _ _ i refl (same-level i)
 
       -- in a room too into which the breaks are written
       pub breaks-written : (customer house room : List ℕ) (i : ℕ) → i < roomSize

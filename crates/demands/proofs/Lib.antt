@@ -1,6 +1,7 @@
 pub mod Grounds
 pub mod Liang
 pub mod Accepted
+pub mod Hyphens
 pub mod Breaks
 pub mod Walks
 pub mod Unreached

@@ -173,7 +173,7 @@ module _ (root : ℕ) (table other : List ℕ) (a : AgreeReached root table othe
       → breakSheet left right customer house (cellsOf table) (entriesOf table) root word ≡ breakSheet left right customer house (cellsOf other) (entriesOf other) root word
   unfolding breakSheet isBreak levelBreak
   breaks-alike left right customer house =
-      sheet-same _ _ _ (λ i k. ap bit (break-same (findEither word customer house) (findEither word customer house) customer house _ _ i refl (rw (level-alike i))))
+      sheet-same _ _ _ (λ i k. ap bit (break-same (findEither word customer house) (findEither word customer house) customer house _ _ _ i refl (rw (level-alike i))))
 
 -- The calls say and write the same over both, whatever the word.
 module _ (table other : List ℕ) (a : AgreeReached rootBase table other) where

@@ -9,16 +9,17 @@ use Rattle.base.specs.Limits.{roomSize}
 use Rattle.base.specs.Grounds.{Said, Finds, Refuses, firstOf}
 use Rattle.rooms.specs.Rooms.{sheetFrom, sheet, nonzero, bit}
 use Rattle.words.specs.Symbols.{small, capital, letter, lower, digit, symbolOf, symbolsOf}
-use Rattle.words.specs.Words.{leading, wordGrounds, wordSymbols, rowOf, inner}
+use Rattle.words.specs.Words.{leading, wordGrounds, allLetters, judgeWord, wordSymbols, rowOf, inner}
 use Rattle.lines.specs.Lines.{glue, cut, isNil, startsWith, anyOf, patternForm, goodPattern, exceptionForm, goodException}
 use Rattle.lines.specs.Order.{before}
-use Rattle.lists.specs.Lists.{goodLine, firstBad, judgeLines, patternGrounds, listGrounds}
+use Rattle.lists.specs.Lists.{goodLine, firstBad, judgeLines, judgeSize, judgeLists, patternGrounds, listGrounds}
 use Rattle.base.specs.Tests.{sameList, allFrom, smallest}
 use Rattle.lookup.specs.Find.{findLine, find, findEither}
+use Rattle.lookup.specs.Lookup.{judgeLookup, locate, lineOf}
 use Rattle.liang.specs.Patterns.{levelsFrom, patternOf, patternsOf}
 use Rattle.liang.specs.Levels.{begins, levelHere, levelOf, highest, liang}
 use Rattle.hyphenation.specs.Breaks.{isBreak, breakSheet, breakLooks}
-use Rattle.liang.specs.Breaks.{hyphenAt, inMargins, odd, levelBreak, badMargin}
+use Rattle.liang.specs.Breaks.{hyphenAt, inMargins, odd, lineBreak, levelBreak, badMargin}
 use Rattle.table.specs.Table.{rootBase, numberAt, cellCount, entryCount, formed, tableGrounds, cellsFrom, entriesFrom, cellsOf, entriesOf, look, entryAt}
 use Rattle.walk.specs.Chain.{setting, chainStep, chainFrom, chain}
 use Rattle.walk.specs.Walk.{setStep, setFrom, lookStep, looksFrom, settings, looks}
@@ -56,19 +57,23 @@ unfoldable pub levelsCall : List ℕ → List ℕ → List ℕ
 levelsCall table word =
     inNumbers (foundOr (levelsGrounds word table roomSize) (levelSheet (cellsOf table) (entriesOf table) rootBase word) (wordLooks (cellsOf table) rootBase word))
 
--- What the hyphenating call says over a table, with margins 2 and 3 and a room of 64 bytes, and its breaks by gap.
-unfoldable pub hyphenateCall : List ℕ → List ℕ → List ℕ → List ℕ → List ℕ
-hyphenateCall table customer house word =
-    inNumbers (foundOr (hyphenateGrounds 2 3 word customer house table roomSize) (breaksSheet 2 3 word customer house table) (breaksLooks word customer house table))
-    ++ take (length word - 1) (drop 1 (breaksSheet 2 3 word customer house table))
+-- What the hyphenating call says over a table, with a room of 64 bytes, and its breaks by gap.
+unfoldable pub hyphenateCall : ℕ → ℕ → List ℕ → List ℕ → List ℕ → List ℕ → List ℕ
+hyphenateCall left right table customer house word =
+    inNumbers (foundOr (hyphenateGrounds left right word customer house table roomSize) (breaksSheet left right word customer house table) (breaksLooks word customer house table))
+    ++ take (length word - 1) (drop 1 (breaksSheet left right word customer house table))
+
+-- The line that the lookup shows.
+unfoldable pub lookupCall : List ℕ → List ℕ → List ℕ → List ℕ
+lookupCall customer house word = lineOf customer house (locate word customer house)
 
 -- The levels of a word's inner gaps.
 unfoldable pub levels : List ℕ → List ℕ → List ℕ
 levels patterns word = map (liang (patternsOf patterns) word) (count 1 (length word - 1))
 
--- The breaks of a word by gap, 1 where there is one, for margins 2 and 3.
-unfoldable pub breaks : List ℕ → List ℕ → List ℕ → List ℕ → List ℕ
-breaks patterns customer house word = map (λ i. bit (isBreak 2 3 customer house (liang (patternsOf patterns) word) word i)) (count 1 (length word - 1))
+-- The breaks of a word by gap, 1 where there is one.
+unfoldable pub breaks : ℕ → ℕ → List ℕ → List ℕ → List ℕ → List ℕ → List ℕ
+breaks left right patterns customer house word = map (λ i. bit (isBreak left right customer house (liang (patternsOf patterns) word) word i)) (count 1 (length word - 1))
 
 -- The first-fit table of a text; no bytes where there is none.
 abbrev pub bytesIn : Fit → List ℕ
@@ -109,10 +114,10 @@ table =
     sameList (inNumbers (firstOf (Finds []) (patternGrounds nine))) (0 ∷ [])
     -- ""hyphenation": levels 0 3 0 0 2 5 4 2 0 2; margins 2, 3 give hy-phen-ation."
     ∷ sameList (levels nine (bytes "hyphenation")) (0 ∷ 3 ∷ 0 ∷ 0 ∷ 2 ∷ 5 ∷ 4 ∷ 2 ∷ 0 ∷ 2 ∷ [])
-    ∷ sameList (breaks nine [] [] (bytes "hyphenation")) (0 ∷ 1 ∷ 0 ∷ 0 ∷ 0 ∷ 1 ∷ 0 ∷ 0 ∷ 0 ∷ 0 ∷ [])
+    ∷ sameList (breaks 2 3 nine [] [] (bytes "hyphenation")) (0 ∷ 1 ∷ 0 ∷ 0 ∷ 0 ∷ 1 ∷ 0 ∷ 0 ∷ 0 ∷ 0 ∷ [])
     -- ""on" has level 2, no break"
     ∷ sameList (levels nine (bytes "on")) (2 ∷ [])
-    ∷ sameList (breaks nine [] [] (bytes "on")) (0 ∷ [])
+    ∷ sameList (breaks 2 3 nine [] [] (bytes "on")) (0 ∷ [])
     -- "Its first-fit table: C 32, E 7, 233 bytes. Bases: h 1, i 2, n 3, o 4, t 7, he 5, hy 6, na 8, ti 9, hen 10, hyp 13, hena 11."
     ∷ sameList (sizes nineTable) (233 ∷ 32 ∷ 7 ∷ [])
     ∷ sameList (map (baseOf nineTable) ninePaths) nineBases
@@ -120,11 +125,11 @@ table =
     ∷ sameList (layoutSizes nine) (233 ∷ 32 ∷ 7 ∷ [])
     ∷ sameList (map (λ path. linkTo nineLayout (wordSymbols path)) ninePaths) nineBases
     -- "Its count is 27 (limit 208); "on" has level 2, no break, count 6." Over the table the calls find the same.
-    ∷ sameList (hyphenateCall nineTable [] [] (bytes "hyphenation")) (0 ∷ 2 ∷ 27 ∷ 0 ∷ 1 ∷ 0 ∷ 0 ∷ 0 ∷ 1 ∷ 0 ∷ 0 ∷ 0 ∷ 0 ∷ [])
+    ∷ sameList (hyphenateCall 2 3 nineTable [] [] (bytes "hyphenation")) (0 ∷ 2 ∷ 27 ∷ 0 ∷ 1 ∷ 0 ∷ 0 ∷ 0 ∷ 1 ∷ 0 ∷ 0 ∷ 0 ∷ 0 ∷ [])
     ∷ eqb (16 * (length (bytes "hyphenation") + 2)) 208
     ∷ sameList (levelsCall nineTable (bytes "hyphenation")) (0 ∷ 6 ∷ 27 ∷ [])
     ∷ sameList (levelsCall nineTable (bytes "on")) (0 ∷ 1 ∷ 6 ∷ [])
-    ∷ sameList (hyphenateCall nineTable [] [] (bytes "on")) (0 ∷ 0 ∷ 6 ∷ 0 ∷ [])
+    ∷ sameList (hyphenateCall 2 3 nineTable [] [] (bytes "on")) (0 ∷ 0 ∷ 6 ∷ 0 ∷ [])
     ∷ sameList (inNumbers (firstOf (Finds []) (checkGrounds nine nineTable))) (0 ∷ [])
     -- "Empty list: C 1, E 0, 12 bytes."
     ∷ sameList (packed []) emptyTable
@@ -132,12 +137,19 @@ table =
     ∷ sameList (layoutSizes []) (12 ∷ 1 ∷ 0 ∷ [])
     -- ""na": the 1 falls outside; level 0."
     ∷ sameList (levels nine (bytes "na")) (0 ∷ [])
-    -- ""met-al" as house line, margins 2, 3: break after 3."
-    ∷ sameList (breaks nine [] (line "met-al") (bytes "metal")) (0 ∷ 0 ∷ 1 ∷ 0 ∷ [])
-    ∷ sameList (hyphenateCall emptyTable [] (line "met-al") (bytes "metal")) (0 ∷ 1 ∷ 0 ∷ 0 ∷ 0 ∷ 1 ∷ 0 ∷ [])
+    -- CR 1: ""met-al" has no break with margins 2, 3 and one with 2, 2. The lookup still shows the line as written."
+    ∷ sameList (breaks 2 3 nine [] (line "met-al") (bytes "metal")) (0 ∷ 0 ∷ 0 ∷ 0 ∷ [])
+    ∷ sameList (breaks 2 2 nine [] (line "met-al") (bytes "metal")) (0 ∷ 0 ∷ 1 ∷ 0 ∷ [])
+    ∷ sameList (hyphenateCall 2 3 emptyTable [] (line "met-al") (bytes "metal")) (0 ∷ 0 ∷ 0 ∷ 0 ∷ 0 ∷ 0 ∷ 0 ∷ [])
+    ∷ sameList (hyphenateCall 2 2 emptyTable [] (line "met-al") (bytes "metal")) (0 ∷ 1 ∷ 0 ∷ 0 ∷ 0 ∷ 1 ∷ 0 ∷ [])
+    ∷ sameList (lookupCall [] (line "met-al") (bytes "metal")) (bytes "met-al")
+    -- The customer's line is bound as the house line is, by the left margin too, and decides though none of its hyphens counts.
+    ∷ sameList (hyphenateCall 2 3 emptyTable (line "met-al") (line "me-tal") (bytes "metal")) (0 ∷ 0 ∷ 0 ∷ 0 ∷ 0 ∷ 0 ∷ 0 ∷ [])
+    ∷ sameList (hyphenateCall 4 1 emptyTable (line "me-t-a-l") (line "met-al") (bytes "metal")) (0 ∷ 1 ∷ 0 ∷ 0 ∷ 0 ∷ 0 ∷ 1 ∷ [])
+    ∷ sameList (hyphenateCall 2 3 nineTable (line "hyph-e-nati-on") [] (bytes "hyphenation")) (0 ∷ 2 ∷ 0 ∷ 0 ∷ 0 ∷ 0 ∷ 1 ∷ 1 ∷ 0 ∷ 0 ∷ 0 ∷ 0 ∷ 0 ∷ [])
     -- "Customer "idler", house "id-ler": no break."
-    ∷ sameList (breaks nine (line "idler") (line "id-ler") (bytes "idler")) (0 ∷ 0 ∷ 0 ∷ 0 ∷ [])
-    ∷ sameList (hyphenateCall emptyTable (line "idler") (line "id-ler") (bytes "idler")) (0 ∷ 0 ∷ 0 ∷ 0 ∷ 0 ∷ 0 ∷ 0 ∷ [])
+    ∷ sameList (breaks 2 3 nine (line "idler") (line "id-ler") (bytes "idler")) (0 ∷ 0 ∷ 0 ∷ 0 ∷ [])
+    ∷ sameList (hyphenateCall 2 3 emptyTable (line "idler") (line "id-ler") (bytes "idler")) (0 ∷ 0 ∷ 0 ∷ 0 ∷ 0 ∷ 0 ∷ 0 ∷ [])
     -- "63 letters answered, 64 refused (4); 64 bytes with a digit also 4." Over the empty table each of 65 places takes one look.
     ∷ sameList (levelsCall emptyTable (letters 63)) (0 ∷ 0 ∷ 65 ∷ [])
     ∷ sameList (levelsCall emptyTable (letters 64)) (4 ∷ 0 ∷ 0 ∷ [])
@@ -145,5 +157,5 @@ table =
     ∷ []
 
 pub figures : allOf table ≡ true
-unfolding table nine count levels breaks small capital letter lower digit symbolOf symbolsOf firstOf leading wordGrounds wordSymbols rowOf inner glue cut isNil startsWith anyOf patternForm goodPattern exceptionForm goodException before goodLine firstBad judgeLines patternGrounds listGrounds sameList findLine find findEither levelsFrom patternOf patternsOf begins levelHere levelOf highest liang hyphenAt inMargins odd levelBreak isBreak badMargin levelsCall hyphenateCall emptyTable numberAt cellCount entryCount formed tableGrounds cellsFrom entriesFrom cellsOf entriesOf look entryAt setting chainStep chainFrom chain setStep setFrom lookStep looksFrom settings looks highestSet sheetFrom sheet nonzero levelAt levelSheet wordLooks breakSheet breakLooks roomGrounds marginGrounds levelsGrounds hyphenateGrounds packed baseOf sizes common onward along soundStep soundFrom sound nextIn allFrom kindsFrom kindsTest exactTest childAt noneBetween passedOver followStep follow besides patternsRight rightTest checkGrounds putNumber isFree serves smallest baseFor inside putCell putCells cellOf putLink placeAt place opens placeLength placeLengths layoutOf usedFrom holds findEntry putEntry enterAt enter enterLevels enterPattern putOutput outputOf outputsOf putKinds bytesOf finish fitLayout firstFit layoutSizes goesOn hasBase usedBy usesCell fitsAt reach leastBase nextBase pathsAt pathsFrom longestLength pathsOf placeAll basesOf topFrom topOf cellsNeeded equal firstEqual addAt addLevel addLevels addPattern addPatterns entryList entriesNeeded outputFrom outputFor twoBytes headBytes cellBytes entryBytes linkTo pathCell cellAmong numberedCells allEntries layoutTable
+unfolding table nine count levels breaks small capital letter lower digit symbolOf symbolsOf firstOf leading wordGrounds wordSymbols rowOf inner glue cut isNil startsWith anyOf patternForm goodPattern exceptionForm goodException before goodLine firstBad judgeLines patternGrounds listGrounds sameList findLine find findEither levelsFrom patternOf patternsOf begins levelHere levelOf highest liang hyphenAt inMargins odd lineBreak levelBreak isBreak badMargin levelsCall hyphenateCall lookupCall judgeLookup locate judgeWord allLetters judgeLists judgeSize emptyTable numberAt cellCount entryCount formed tableGrounds cellsFrom entriesFrom cellsOf entriesOf look entryAt setting chainStep chainFrom chain setStep setFrom lookStep looksFrom settings looks highestSet sheetFrom sheet nonzero levelAt levelSheet wordLooks breakSheet breakLooks roomGrounds marginGrounds levelsGrounds hyphenateGrounds packed baseOf sizes common onward along soundStep soundFrom sound nextIn allFrom kindsFrom kindsTest exactTest childAt noneBetween passedOver followStep follow besides patternsRight rightTest checkGrounds putNumber isFree serves smallest baseFor inside putCell putCells cellOf putLink placeAt place opens placeLength placeLengths layoutOf usedFrom holds findEntry putEntry enterAt enter enterLevels enterPattern putOutput outputOf outputsOf putKinds bytesOf finish fitLayout firstFit layoutSizes goesOn hasBase usedBy usesCell fitsAt reach leastBase nextBase pathsAt pathsFrom longestLength pathsOf placeAll basesOf topFrom topOf cellsNeeded equal firstEqual addAt addLevel addLevels addPattern addPatterns entryList entriesNeeded outputFrom outputFor twoBytes headBytes cellBytes entryBytes linkTo pathCell cellAmong numberedCells allEntries layoutTable
 figures = refl

@@ -2,7 +2,7 @@
 use Prim.Native.Nat.{ℕ, _+_, _-_, _%_, _≤_, _<_}
 use mathlib.Core.Bool.{Bool, true, false, _&&_, and-false}
 use mathlib.Core.List.{List}
-use mathlib.Core.Path.{_≡_, refl}
+use mathlib.Core.Path.{_≡_, refl, sym}
 use native.Mathlib.Omega.{arith}
 use borrow.Author.Tests.{lt-leb, le-leb, lt-ltb, le-ltb, eq-eqb, ne-eqb, eqb-true, eqb-false}
 use lib.Dec.{leb, ltb, eqb}
@@ -18,23 +18,48 @@ use Rattle.rooms.specs.Rooms.{isShort, bit}
 use Rattle.hyphenation.specs.Breaks.{markHyphens}
 use Rattle.hyphenation.specs.Calls.{judgeRoom, judgeMargins}
 
+-- a gap that the margins fit around
+module _ (left right n i : ℕ) where
+  pub inside-left : i < left → false ≡ inMargins left right n i
+  unfolding inMargins
+  inside-left l = rw (lt-leb left i l)
+
+  pub inside-past : left ≤ i → n < i → eqb right 0 ≡ inMargins left right n i
+  unfolding inMargins
+  inside-past l k = rw (le-leb left i l) (go (eqb right 0) refl)
+    where
+      go : (z : Bool) → eqb right 0 ≡ z → z ≡ leb right (n - i)
+      go true p = sym (le-leb right (n - i) (omega (arith, eqb-true right 0 p)))
+      go false p = let none : right ≡ 0 → ⊥ = eqb-false right 0 p in sym (lt-leb right (n - i) (omega arith))
+
+  pub inside-right : left ≤ i → leb right (n - i) ≡ inMargins left right n i
+  unfolding inMargins
+  inside-right l = rw (le-leb left i l)
+
 -- an exception line's hyphens
-module _ (line : List ℕ) (i : ℕ) (h : i < length line) (gap : ℕ) (room : List ℕ) where
-  pub mark-letter : (getD line i 0 ≡ hyphen → ⊥) → markHyphens gap (drop i line) room ≡ markHyphens (gap + 1) (drop (i + 1) line) room
-  unfolding markHyphens
-  mark-letter z = rw (cons-at line i h, ne-eqb (getD line i 0) hyphen z)
+module _ (counts : ℕ → Bool) where
+  module _ (line : List ℕ) (i : ℕ) (h : i < length line) (gap : ℕ) (room : List ℕ) where
+    pub mark-letter : (getD line i 0 ≡ hyphen → ⊥) → markHyphens counts gap (drop i line) room ≡ markHyphens counts (gap + 1) (drop (i + 1) line) room
+    unfolding markHyphens
+    mark-letter z = rw (cons-at line i h, ne-eqb (getD line i 0) hyphen z)
 
-  pub mark-hyphen : getD line i 0 ≡ hyphen → gap < roomSize → markHyphens gap (drop i line) room ≡ markHyphens gap (drop (i + 1) line) (set room gap 1)
-  unfolding markHyphens
-  mark-hyphen z k = rw (cons-at line i h, eq-eqb (getD line i 0) hyphen z, lt-ltb gap roomSize k)
+    pub mark-hyphen : getD line i 0 ≡ hyphen → gap < roomSize → counts gap ≡ true
+        → markHyphens counts gap (drop i line) room ≡ markHyphens counts gap (drop (i + 1) line) (set room gap 1)
+    unfolding markHyphens
+    mark-hyphen z k c = rw (cons-at line i h, eq-eqb (getD line i 0) hyphen z, lt-ltb gap roomSize k, c)
 
-  pub mark-far : getD line i 0 ≡ hyphen → roomSize ≤ gap → markHyphens gap (drop i line) room ≡ markHyphens gap (drop (i + 1) line) room
-  unfolding markHyphens
-  mark-far z k = rw (cons-at line i h, eq-eqb (getD line i 0) hyphen z, le-ltb gap roomSize k)
+    pub mark-outside : getD line i 0 ≡ hyphen → gap < roomSize → counts gap ≡ false
+        → markHyphens counts gap (drop i line) room ≡ markHyphens counts gap (drop (i + 1) line) room
+    unfolding markHyphens
+    mark-outside z k c = rw (cons-at line i h, eq-eqb (getD line i 0) hyphen z, lt-ltb gap roomSize k, c)
 
-pub mark-end : (line : List ℕ) (i gap : ℕ) (room : List ℕ) → length line ≤ i → markHyphens gap (drop i line) room ≡ room
-unfolding markHyphens
-mark-end line i gap room h = rw (drop-of-length-le line h)
+    pub mark-far : getD line i 0 ≡ hyphen → roomSize ≤ gap → markHyphens counts gap (drop i line) room ≡ markHyphens counts gap (drop (i + 1) line) room
+    unfolding markHyphens
+    mark-far z k = rw (cons-at line i h, eq-eqb (getD line i 0) hyphen z, le-ltb gap roomSize k)
+
+  pub mark-end : (line : List ℕ) (i gap : ℕ) (room : List ℕ) → length line ≤ i → markHyphens counts gap (drop i line) room ≡ room
+  unfolding markHyphens
+  mark-end line i gap room h = rw (drop-of-length-le line h)
 
 -- a gap that the levels break
 module _ (left right n : ℕ) (level : ℕ → ℕ) (i : ℕ) where

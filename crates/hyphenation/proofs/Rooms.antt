@@ -1,6 +1,6 @@
 -- What stands in a room at each byte: after settings are raised, after a line is marked, and in a sheet.
 use Prim.Native.Nat.{ℕ, zero, suc, _+_, _-_, _≤_, _<_}
-use mathlib.Core.Bool.{Bool, true, false, cond, _&&_}
+use mathlib.Core.Bool.{Bool, true, false, cond, _&&_, and-false}
 use mathlib.Core.List.{List, [], _∷_}
 use mathlib.Core.Path.{_≡_, refl, sym, _∙_, ap}
 use native.Mathlib.Decide.{decLt}
@@ -19,7 +19,7 @@ use Rattle.lookup.specs.Find.{findEither}
 use Rattle.lookup.specs.declared.Located.{Located}
 use Rattle.lookup.specs.declared.Located.the-variants.{Customer, House, Nowhere}
 use Rattle.hyphenation.specs.Breaks.{breakBy, isBreak, markHyphens, breakSheet, unlessListed, breakLooks}
-use Rattle.liang.specs.Breaks.{hyphenAt, levelBreak}
+use Rattle.liang.specs.Breaks.{hyphenAt, inMargins, lineBreak, levelBreak}
 use Rattle.walk.specs.Chain.{Setting}
 use Rattle.walk.specs.Walk.{settings}
 use Rattle.walk.specs.Raise.{raiseAll}
@@ -158,73 +158,77 @@ module _ (left right n : ℕ) (levels : List ℕ) where
   breaks-cleared d e f = f ∙ rw e (written-again roomSize (λ j. 0) d (sheet roomSize (λ j. bit (broken j))))
 
 -- a line marked, byte by byte; `next` is the recursive call
-pub mark-length : (gap : ℕ) (line room : List ℕ) → length (markHyphens gap line room) ≡ length room
-unfolding markHyphens
-mark-length gap [] room = refl
-mark-length gap (b ∷ t) room = go (eqb b hyphen) (ltb gap roomSize) (λ g r. mark-length g t r)
-  where
-    go : (z y : Bool) → ((g : ℕ) (r : List ℕ) → length (markHyphens g t r) ≡ length r)
-        → length (cond z (markHyphens gap t (cond y (set room gap 1) room)) (markHyphens (gap + 1) t room)) ≡ length room
-    go true true next = next gap (set room gap 1) ∙ length-set room gap 1
-    go true false next = next gap room
-    go false y next = next (gap + 1) room
+module _ (counts : ℕ → Bool) where
+  pub mark-length : (gap : ℕ) (line room : List ℕ) → length (markHyphens counts gap line room) ≡ length room
+  unfolding markHyphens
+  mark-length gap [] room = refl
+  mark-length gap (b ∷ t) room = go (eqb b hyphen) (ltb gap roomSize && counts gap) (λ g r. mark-length g t r)
+    where
+      go : (z y : Bool) → ((g : ℕ) (r : List ℕ) → length (markHyphens counts g t r) ≡ length r)
+          → length (cond z (markHyphens counts gap t (cond y (set room gap 1) room)) (markHyphens counts (gap + 1) t room)) ≡ length room
+      go true true next = next gap (set room gap 1) ∙ length-set room gap 1
+      go true false next = next gap room
+      go false y next = next (gap + 1) room
 
-mark-kept : (gap : ℕ) (line room : List ℕ) (i : ℕ) → (gap ≤ i → roomSize ≤ i) → getD (markHyphens gap line room) i 0 ≡ getD room i 0
-unfolding markHyphens
-mark-kept gap [] room i h = refl
-mark-kept gap (b ∷ t) room i h = go (eqb b hyphen) (ltb gap roomSize) refl (λ g r. mark-kept g t r i)
-  where
-    go : (z y : Bool) → ltb gap roomSize ≡ y → ((g : ℕ) (r : List ℕ) → (g ≤ i → roomSize ≤ i) → getD (markHyphens g t r) i 0 ≡ getD r i 0)
-        → getD (cond z (markHyphens gap t (cond y (set room gap 1) room)) (markHyphens (gap + 1) t room)) i 0 ≡ getD room i 0
-    go true true p next =
-        next gap (set room gap 1) h
-        ∙ getD-set-other room gap i 1 0 (λ q. omega (arith, q, h (omega (arith, q)), ltb-true gap roomSize p))
-    go true false p next = next gap room h
-    go false y p next = next (gap + 1) room (λ k. h (omega (arith, k)))
+  mark-kept : (gap : ℕ) (line room : List ℕ) (i : ℕ) → (gap ≤ i → roomSize ≤ i) → getD (markHyphens counts gap line room) i 0 ≡ getD room i 0
+  unfolding markHyphens
+  mark-kept gap [] room i h = refl
+  mark-kept gap (b ∷ t) room i h = go (eqb b hyphen) (ltb gap roomSize) (counts gap) refl (λ g r. mark-kept g t r i)
+    where
+      go : (z y x : Bool) → ltb gap roomSize ≡ y → ((g : ℕ) (r : List ℕ) → (g ≤ i → roomSize ≤ i) → getD (markHyphens counts g t r) i 0 ≡ getD r i 0)
+          → getD (cond z (markHyphens counts gap t (cond (y && x) (set room gap 1) room)) (markHyphens counts (gap + 1) t room)) i 0 ≡ getD room i 0
+      go true true true p next =
+          next gap (set room gap 1) h
+          ∙ getD-set-other room gap i 1 0 (λ q. omega (arith, q, h (omega (arith, q)), ltb-true gap roomSize p))
+      go true true false p next = next gap room h
+      go true false x p next = next gap room h
+      go false y x p next = next (gap + 1) room (λ k. h (omega (arith, k)))
 
-mark-here : (gap : ℕ) (line room : List ℕ) (j : ℕ) → gap + j < roomSize → gap + j < length room
-    → getD (markHyphens gap line room) (gap + j) 0 ≡ cond (hyphenAt line j) 1 (getD room (gap + j) 0)
-unfolding markHyphens hyphenAt
-mark-here gap [] room j h l = refl
-mark-here gap (b ∷ t) room zero h l = go (eqb b hyphen) (λ r k. mark-here gap t r zero h k)
-  where
-    below : gap < roomSize
-    below = omega arith
+  mark-here : (gap : ℕ) (line room : List ℕ) (j : ℕ) → gap + j < roomSize → gap + j < length room
+      → getD (markHyphens counts gap line room) (gap + j) 0 ≡ cond (counts (gap + j) && hyphenAt line j) 1 (getD room (gap + j) 0)
+  unfolding markHyphens hyphenAt
+  mark-here gap [] room j h l = rw (and-false (counts (gap + j)))
+  mark-here gap (b ∷ t) room zero h l = go (eqb b hyphen) (counts gap) refl (λ r k. mark-here gap t r zero h k)
+    where
+      below : gap < roomSize
+      below = omega arith
 
-    at : gap + zero ≡ gap
-    at = omega arith
+      at : gap + zero ≡ gap
+      at = omega arith
 
-    one : (z : Bool) → _≡_ {A = ℕ} (cond z 1 1) 1
-    one true = refl
-    one false = refl
+      one : (z : Bool) → _≡_ {A = ℕ} (cond z 1 1) 1
+      one true = refl
+      one false = refl
 
-    go : (z : Bool) → ((r : List ℕ) → gap + zero < length r → getD (markHyphens gap t r) (gap + zero) 0 ≡ cond (hyphenAt t zero) 1 (getD r (gap + zero) 0))
-        → getD (cond z (markHyphens gap t (cond (ltb gap roomSize) (set room gap 1) room)) (markHyphens (gap + 1) t room)) (gap + zero) 0 ≡ cond z 1 (getD room (gap + zero) 0)
-    go true next =
-        rw (lt-ltb gap roomSize below) (next (set room gap 1) (omega (arith, l, length-set room gap 1)) ∙ rw (at, getD-set-same room gap 1 0 (omega (arith, l))) (one (hyphenAt t zero)))
-    go false next = mark-kept (gap + 1) t room (gap + zero) (λ k. omega (arith, k))
-mark-here gap (b ∷ t) room (suc j) h l = go (eqb b hyphen) (λ r k. mark-here gap t r (suc j) h k) (λ k m. mark-here (gap + 1) t room j k m)
-  where
-    below : gap < roomSize
-    below = omega arith
+      go : (z y : Bool) → counts gap ≡ y → ((r : List ℕ) → gap + zero < length r → getD (markHyphens counts gap t r) (gap + zero) 0 ≡ cond (counts (gap + zero) && hyphenAt t zero) 1 (getD r (gap + zero) 0))
+          → getD (cond z (markHyphens counts gap t (cond (ltb gap roomSize && y) (set room gap 1) room)) (markHyphens counts (gap + 1) t room)) (gap + zero) 0 ≡ cond (counts (gap + zero) && z) 1 (getD room (gap + zero) 0)
+      go true true p next =
+          rw (lt-ltb gap roomSize below) (next (set room gap 1) (omega (arith, l, length-set room gap 1)) ∙ rw (at, p, getD-set-same room gap 1 0 (omega (arith, l))) (one (hyphenAt t zero)))
+      go true false p next = rw (lt-ltb gap roomSize below) (next room l ∙ rw (at, p))
+      go false y p next = mark-kept (gap + 1) t room (gap + zero) (λ k. omega (arith, k)) ∙ rw (and-false (counts (gap + zero)))
+  mark-here gap (b ∷ t) room (suc j) h l = go (eqb b hyphen) (ltb gap roomSize && counts gap) (λ r k. mark-here gap t r (suc j) h k) (λ k m. mark-here (gap + 1) t room j k m)
+    where
+      on : gap + 1 + j ≡ gap + suc j
+      on = omega arith
 
-    on : gap + 1 + j ≡ gap + suc j
-    on = omega arith
-
-    go : (z : Bool) → ((r : List ℕ) → gap + suc j < length r → getD (markHyphens gap t r) (gap + suc j) 0 ≡ cond (hyphenAt t (suc j)) 1 (getD r (gap + suc j) 0))
-        → (gap + 1 + j < roomSize → gap + 1 + j < length room → getD (markHyphens (gap + 1) t room) (gap + 1 + j) 0 ≡ cond (hyphenAt t j) 1 (getD room (gap + 1 + j) 0))
-        → getD (cond z (markHyphens gap t (cond (ltb gap roomSize) (set room gap 1) room)) (markHyphens (gap + 1) t room)) (gap + suc j) 0
-        ≡ cond (cond z (hyphenAt t (suc j)) (hyphenAt t j)) 1 (getD room (gap + suc j) 0)
-    go true next step =
-        rw (lt-ltb gap roomSize below) (next (set room gap 1) (omega (arith, l, length-set room gap 1)) ∙ rw (getD-set-other room gap (gap + suc j) 1 0 (λ q. omega (arith, q))))
-    go false next step = rw on at (step (omega (arith, h)) (omega (arith, l)))
+      go : (z y : Bool) → ((r : List ℕ) → gap + suc j < length r → getD (markHyphens counts gap t r) (gap + suc j) 0 ≡ cond (counts (gap + suc j) && hyphenAt t (suc j)) 1 (getD r (gap + suc j) 0))
+          → (gap + 1 + j < roomSize → gap + 1 + j < length room → getD (markHyphens counts (gap + 1) t room) (gap + 1 + j) 0 ≡ cond (counts (gap + 1 + j) && hyphenAt t j) 1 (getD room (gap + 1 + j) 0))
+          → getD (cond z (markHyphens counts gap t (cond y (set room gap 1) room)) (markHyphens counts (gap + 1) t room)) (gap + suc j) 0
+          ≡ cond (counts (gap + suc j) && cond z (hyphenAt t (suc j)) (hyphenAt t j)) 1 (getD room (gap + suc j) 0)
+      go true true next step = next (set room gap 1) (omega (arith, l, length-set room gap 1)) ∙ rw (getD-set-other room gap (gap + suc j) 1 0 (λ q. omega (arith, q)))
+      go true false next step = next room l
+      go false y next step = rw on at (step (omega (arith, h)) (omega (arith, l)))
 
 -- the break room of an exception line
-pub line-room : (line room : List ℕ) → roomSize ≤ length room → markHyphens 0 line (written roomSize (sheet roomSize (λ i. 0)) room) ≡ written roomSize (lineSheet line) room
+pub line-room : (left right n : ℕ) (line room : List ℕ) → roomSize ≤ length room
+    → markHyphens (inMargins left right n) 0 line (written roomSize (sheet roomSize (λ i. 0)) room) ≡ written roomSize (lineSheet left right n line) room
 unfolding lineSheet
-line-room line room large =
-    written-is roomSize (λ i. bit (hyphenAt line i)) room (markHyphens 0 line clean) large (mark-length 0 line clean ∙ written-length roomSize (λ i. 0) room large) low high
+line-room left right n line room large =
+    written-is roomSize (λ i. bit (lineBreak left right n line i)) room (markHyphens counts 0 line clean) large (mark-length counts 0 line clean ∙ written-length roomSize (λ i. 0) room large) low high
   where
+    counts : ℕ → Bool
+    counts = inMargins left right n
+
     clean : List ℕ
     clean = written roomSize (sheet roomSize (λ i. 0)) room
 
@@ -232,33 +236,34 @@ line-room line room large =
     asBit true = refl
     asBit false = refl
 
-    low : (i : ℕ) → i < roomSize → getD (markHyphens 0 line clean) i 0 ≡ bit (hyphenAt line i)
+    low : (i : ℕ) → i < roomSize → getD (markHyphens counts 0 line clean) i 0 ≡ bit (lineBreak left right n line i)
     low i k =
         let z : 0 + i ≡ i = omega arith in
-        rw z at (mark-here 0 line clean i (omega arith) (omega (arith, written-length roomSize (λ i. 0) room large))) ∙ rw (written-low roomSize (λ i. 0) room i k) (asBit (hyphenAt line i))
+        rw z at (mark-here counts 0 line clean i (omega arith) (omega (arith, written-length roomSize (λ i. 0) room large)))
+        ∙ rw (written-low roomSize (λ i. 0) room i k) (unfold lineBreak in asBit (inMargins left right n i && hyphenAt line i))
 
-    high : (i : ℕ) → roomSize ≤ i → i < length room → getD (markHyphens 0 line clean) i 0 ≡ getD room i 0
-    high i k l = mark-kept 0 line clean i (λ q. k) ∙ written-high roomSize (λ i. 0) room i k
+    high : (i : ℕ) → roomSize ≤ i → i < length room → getD (markHyphens counts 0 line clean) i 0 ≡ getD room i 0
+    high i k l = mark-kept counts 0 line clean i (λ q. k) ∙ written-high roomSize (λ i. 0) room i k
 
 -- the breaks, by where the word's line stands
 module _ (left right root : ℕ) (word customer house cells entries room : List ℕ) {at : Located} (p : at ≡ findEither word customer house) where
   breaks-by : {l : Located} → at ≡ l
       → breakSheet left right customer house cells entries root word
-      ≡ sheet roomSize (λ i. bit (breakBy l customer house (levelBreak left right (length word) (levelAt cells entries root word)) i))
+      ≡ sheet roomSize (λ i. bit (breakBy l customer house (lineBreak left right (length word)) (levelBreak left right (length word) (levelAt cells entries root word)) i))
   unfolding breakSheet isBreak
   breaks-by q =
-      ap (λ (l : Located). sheet roomSize (λ i. bit (breakBy l customer house (levelBreak left right (length word) (levelAt cells entries root word)) i))) (sym p ∙ q)
+      ap (λ (l : Located). sheet roomSize (λ i. bit (breakBy l customer house (lineBreak left right (length word)) (levelBreak left right (length word) (levelAt cells entries root word)) i))) (sym p ∙ q)
 
   looks-by : {l : Located} → at ≡ l → breakLooks customer house cells root word ≡ unlessListed l (wordLooks cells root word)
   unfolding breakLooks
   looks-by q = ap (λ (l : Located). unlessListed l (wordLooks cells root word)) (sym p ∙ q)
 
-  pub by-customer : {start end : ℕ} {after : List ℕ} → at ≡ Customer start end → after ≡ written roomSize (lineSheet (take (end - start) (drop start customer))) room
+  pub by-customer : {start end : ℕ} {after : List ℕ} → at ≡ Customer start end → after ≡ written roomSize (lineSheet left right (length word) (take (end - start) (drop start customer))) room
       → Done (breakSheet left right customer house cells entries root word) (breakLooks customer house cells root word) room 0 after
   unfolding lineSheet
   by-customer q r = record { counted = sym (looks-by q); memory = r ∙ ap (λ (l : List ℕ). written roomSize l room) (sym (breaks-by q)) }
 
-  pub by-house : {start end : ℕ} {after : List ℕ} → at ≡ House start end → after ≡ written roomSize (lineSheet (take (end - start) (drop start house))) room
+  pub by-house : {start end : ℕ} {after : List ℕ} → at ≡ House start end → after ≡ written roomSize (lineSheet left right (length word) (take (end - start) (drop start house))) room
       → Done (breakSheet left right customer house cells entries root word) (breakLooks customer house cells root word) room 0 after
   unfolding lineSheet
   by-house q r = record { counted = sym (looks-by q); memory = r ∙ ap (λ (l : List ℕ). written roomSize l room) (sym (breaks-by q)) }

@@ -23,7 +23,7 @@ use Rattle.lookup.specs.declared.ListLine.the-variants.{At, Nothing}
 use Rattle.lookup.specs.declared.Located.{Located}
 use Rattle.lookup.specs.declared.Located.the-variants.{Customer, House, Nowhere}
 use Rattle.hyphenation.specs.Breaks.{breakBy, isBreak, breakSheet, unlessListed, breakLooks}
-use Rattle.liang.specs.Breaks.{levelBreak}
+use Rattle.liang.specs.Breaks.{lineBreak, levelBreak}
 use Rattle.table.specs.Table.{rootBase, judgeTable, cellsOf, entriesOf}
 use Rattle.walk.specs.Walk.{looks}
 use Rattle.walk.proofs.Count.{looks-few}
@@ -75,10 +75,11 @@ module _ (left right : ℕ) (word customer house table room after : List ℕ) (m
   breaks-limit = omega (arith, breaks-count, breaks-few customer house (cellsOf table) rootBase word)
 
 -- a break asks the levels at its own gap alone
-pub break-same : (l m : Located) (customer house : List ℕ) (f g : ℕ → Bool) (i : ℕ) → l ≡ m → f i ≡ g i → breakBy l customer house f i ≡ breakBy m customer house g i
-break-same l m customer house f g i e h = rw e (go m)
+pub break-same : (l m : Located) (customer house : List ℕ) (byLine : List ℕ → ℕ → Bool) (f g : ℕ → Bool) (i : ℕ) → l ≡ m → f i ≡ g i
+    → breakBy l customer house byLine f i ≡ breakBy m customer house byLine g i
+break-same l m customer house byLine f g i e h = rw e (go m)
   where
-    go : (k : Located) → breakBy k customer house f i ≡ breakBy k customer house g i
+    go : (k : Located) → breakBy k customer house byLine f i ≡ breakBy k customer house byLine g i
     go (Customer start end) = refl
     go (House start end) = refl
     go Nowhere = h
@@ -109,9 +110,9 @@ module _ (word other : List ℕ) (letters : map lower word ≡ map lower other) 
       → breakSheet left right customer house cells entries root word ≡ breakSheet left right customer house cells entries root other
   unfolding breakSheet isBreak levelBreak
   same-breaks left right customer house cells entries root =
-      sheet-same _ _ _
-      (λ i h. ap bit (break-same (findEither word customer house) (findEither other customer house) customer house _ _ i (same-found customer house)
-      (rw (same-at cells entries root i, same-length word other letters))))
+      rw (same-length word other letters) (sheet-same _ _ _
+      (λ i h. ap bit (break-same (findEither word customer house) (findEither other customer house) customer house (lineBreak left right (length other)) _ _ i (same-found customer house)
+      (rw (same-at cells entries root i)))))
 
   same-count : (customer house cells : List ℕ) (root : ℕ) → breakLooks customer house cells root word ≡ breakLooks customer house cells root other
   unfolding breakLooks
@@ -147,16 +148,16 @@ ownLine text Nothing = []
 pub Agree : (word text text′ : List ℕ) → Type 0
 Agree word text text′ = ownLine text (find word text) ≡ ownLine text′ (find word text′)
 
-lines-decide : (f o f′ o′ : ListLine) (c h c′ h′ : List ℕ) (byLevel : ℕ → Bool) (i : ℕ) → ownLine c f ≡ ownLine c′ f′ → ownLine h o ≡ ownLine h′ o′
-    → breakBy (ownFirst f o) c h byLevel i ≡ breakBy (ownFirst f′ o′) c′ h′ byLevel i
+lines-decide : (f o f′ o′ : ListLine) (c h c′ h′ : List ℕ) (byLine : List ℕ → ℕ → Bool) (byLevel : ℕ → Bool) (i : ℕ) → ownLine c f ≡ ownLine c′ f′ → ownLine h o ≡ ownLine h′ o′
+    → breakBy (ownFirst f o) c h byLine byLevel i ≡ breakBy (ownFirst f′ o′) c′ h′ byLine byLevel i
 unfolding ownLine
-lines-decide (At s e) o (At s′ e′) o′ c h c′ h′ byLevel i p q = let l : take (e - s) (drop s c) ≡ take (e′ - s′) (drop s′ c′) = cc in rw l
-lines-decide (At s e) o Nothing o′ c h c′ h′ byLevel i p q = clash cc
-lines-decide Nothing o (At s′ e′) o′ c h c′ h′ byLevel i p q = clash cc
-lines-decide Nothing (At s e) Nothing (At s′ e′) c h c′ h′ byLevel i p q = let l : take (e - s) (drop s h) ≡ take (e′ - s′) (drop s′ h′) = cc in rw l
-lines-decide Nothing (At s e) Nothing Nothing c h c′ h′ byLevel i p q = clash cc
-lines-decide Nothing Nothing Nothing (At s′ e′) c h c′ h′ byLevel i p q = clash cc
-lines-decide Nothing Nothing Nothing Nothing c h c′ h′ byLevel i p q = refl
+lines-decide (At s e) o (At s′ e′) o′ c h c′ h′ byLine byLevel i p q = let l : take (e - s) (drop s c) ≡ take (e′ - s′) (drop s′ c′) = cc in rw l
+lines-decide (At s e) o Nothing o′ c h c′ h′ byLine byLevel i p q = clash cc
+lines-decide Nothing o (At s′ e′) o′ c h c′ h′ byLine byLevel i p q = clash cc
+lines-decide Nothing (At s e) Nothing (At s′ e′) c h c′ h′ byLine byLevel i p q = let l : take (e - s) (drop s h) ≡ take (e′ - s′) (drop s′ h′) = cc in rw l
+lines-decide Nothing (At s e) Nothing Nothing c h c′ h′ byLine byLevel i p q = clash cc
+lines-decide Nothing Nothing Nothing (At s′ e′) c h c′ h′ byLine byLevel i p q = clash cc
+lines-decide Nothing Nothing Nothing Nothing c h c′ h′ byLine byLevel i p q = refl
 
 lines-count : (f o f′ o′ : ListLine) (c h c′ h′ : List ℕ) (n : ℕ) → ownLine c f ≡ ownLine c′ f′ → ownLine h o ≡ ownLine h′ o′
     → unlessListed (ownFirst f o) n ≡ unlessListed (ownFirst f′ o′) n
@@ -175,7 +176,7 @@ module _ (word c h c′ h′ : List ℕ) (own : Agree word c c′) (other : Agre
   agree-breaks : (left right : ℕ) (cells entries : List ℕ) (root : ℕ) → breakSheet left right c h cells entries root word ≡ breakSheet left right c′ h′ cells entries root word
   unfolding breakSheet isBreak findEither Agree
   agree-breaks left right cells entries root =
-      sheet-same _ _ _ (λ i k. ap bit (lines-decide (find word c) (find word h) (find word c′) (find word h′) c h c′ h′ (levelBreak left right (length word) (levelAt cells entries root word)) i own other))
+      sheet-same _ _ _ (λ i k. ap bit (lines-decide (find word c) (find word h) (find word c′) (find word h′) c h c′ h′ (lineBreak left right (length word)) (levelBreak left right (length word) (levelAt cells entries root word)) i own other))
 
   agree-count : (cells : List ℕ) (root : ℕ) → breakLooks c h cells root word ≡ breakLooks c′ h′ cells root word
   unfolding breakLooks findEither Agree

@@ -1,6 +1,6 @@
 -- The breaks of a word over a table, and their count of looks.
 use Prim.Native.Nat.{ℕ, _+_}
-use mathlib.Core.Bool.{Bool, cond}
+use mathlib.Core.Bool.{Bool, cond, _&&_}
 use mathlib.Core.List.{List, [], _∷_}
 use lib.Dec.{ltb, eqb}
 use lib.ListN.{length, set}
@@ -10,20 +10,20 @@ use Rattle.lookup.specs.Find.{findEither}
 use Rattle.lookup.specs.declared.Located.{Located}
 use Rattle.lookup.specs.declared.Located.the-variants.{Customer, House, Nowhere}
 use Rattle.lookup.specs.Lookup.{lineOf}
-use Rattle.liang.specs.Breaks.{hyphenAt, levelBreak}
+use Rattle.liang.specs.Breaks.{lineBreak, levelBreak}
 use Rattle.rooms.specs.Rooms.{sheet, bit}
 use Rattle.hyphenation.specs.Levels.{levelAt, wordLooks}
 
--- "if the word is in the customer's list, that line's hyphens; else those of its house line; else" the levels'. "An exception
--- line stands whole, whatever the margins."
-abbrev pub breakBy : Located → List ℕ → List ℕ → (ℕ → Bool) → ℕ → Bool
-breakBy (Customer start end) customer house byLevel i = hyphenAt (lineOf customer house (Customer start end)) i
-breakBy (House start end) customer house byLevel i = hyphenAt (lineOf customer house (House start end)) i
-breakBy Nowhere customer house byLevel i = byLevel i
+-- "if the word is in the customer's list, that line's hyphens; else those of its house line; else" the levels'. A line decides
+-- even where none of its hyphens counts.
+abbrev pub breakBy : Located → List ℕ → List ℕ → (List ℕ → ℕ → Bool) → (ℕ → Bool) → ℕ → Bool
+breakBy (Customer start end) customer house byLine byLevel i = byLine (lineOf customer house (Customer start end)) i
+breakBy (House start end) customer house byLine byLevel i = byLine (lineOf customer house (House start end)) i
+breakBy Nowhere customer house byLine byLevel i = byLevel i
 
 unfoldable pub isBreak : ℕ → ℕ → List ℕ → List ℕ → (ℕ → ℕ) → List ℕ → ℕ → Bool
 isBreak left right customer house level word i =
-    breakBy (findEither word customer house) customer house (levelBreak left right (length word) level) i
+    breakBy (findEither word customer house) customer house (lineBreak left right (length word)) (levelBreak left right (length word) level) i
 
 -- "byte i of the room is 1 if gap i is a break, the other bytes up to 63 are 0"
 unfoldable pub breakSheet : ℕ → ℕ → List ℕ → List ℕ → List ℕ → List ℕ → ℕ → List ℕ → List ℕ
@@ -39,8 +39,9 @@ unlessListed Nowhere count = count
 unfoldable pub breakLooks : List ℕ → List ℕ → List ℕ → ℕ → List ℕ → ℕ
 breakLooks customer house cells root word = unlessListed (findEither word customer house) (wordLooks cells root word)
 
--- An exception line's hyphens put into a room byte by byte: 1 at the number of letters before each. `gap` letters stand before
--- the first byte given.
-unfoldable pub markHyphens : ℕ → List ℕ → List ℕ → List ℕ
-markHyphens gap [] room = room
-markHyphens gap (b ∷ t) room = cond (eqb b hyphen) (markHyphens gap t (cond (ltb gap roomSize) (set room gap 1) room)) (markHyphens (gap + 1) t room)
+-- An exception line's hyphens put into a room byte by byte: 1 at the number of letters before each, where it counts. `gap` letters
+-- stand before the first byte given.
+unfoldable pub markHyphens : (ℕ → Bool) → ℕ → List ℕ → List ℕ → List ℕ
+markHyphens counts gap [] room = room
+markHyphens counts gap (b ∷ t) room =
+    cond (eqb b hyphen) (markHyphens counts gap t (cond (ltb gap roomSize && counts gap) (set room gap 1) room)) (markHyphens counts (gap + 1) t room)

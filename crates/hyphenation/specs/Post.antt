@@ -3,7 +3,7 @@ use Prim.Native.Nat.{ℕ, _<_}
 use mathlib.Core.Bool.{false}
 use mathlib.Core.List.{List}
 use mathlib.Core.Path.{_≡_}
-use Rattle.liang.specs.Breaks.{hyphenAt, levelBreak}
+use Rattle.liang.specs.Breaks.{lineBreak, levelBreak}
 use lib.ListN.{length, getD}
 use Rattle.base.specs.Limits.{roomSize}
 use Rattle.words.specs.Words.{inner}
@@ -16,8 +16,8 @@ pub record Done (bytes : List ℕ) (looks : ℕ) (room : List ℕ) (count : ℕ)
   pub memory : after ≡ written roomSize bytes room
 
 -- The breaks by an exception line alone, and by the levels alone.
-unfoldable pub lineSheet : List ℕ → List ℕ
-lineSheet line = sheet roomSize (λ i. bit (hyphenAt line i))
+unfoldable pub lineSheet : ℕ → ℕ → ℕ → List ℕ → List ℕ
+lineSheet left right n line = sheet roomSize (λ i. bit (lineBreak left right n line i))
 
 unfoldable pub oddSheet : ℕ → ℕ → List ℕ → List ℕ → ℕ → List ℕ → List ℕ
 oddSheet left right cells entries root word = sheet roomSize (λ i. bit (levelBreak left right (length word) (levelAt cells entries root word) i))

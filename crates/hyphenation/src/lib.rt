@@ -10,7 +10,7 @@ ghost use Rattle.base.specs.Limits.{roomSize, wordLimit};
 ghost use Rattle.base.specs.Grounds.{Finds, says, firstOf};
 ghost use Rattle.base.specs.declared.Check.{Check};
 ghost use Rattle.words.specs.Words.{judgeWord};
-ghost use Rattle.liang.specs.Breaks.{badMargin, levelBreak};
+ghost use Rattle.liang.specs.Breaks.{badMargin, inMargins, levelBreak};
 ghost use Rattle.rooms.specs.Rooms.{sheet, written, bit};
 ghost use Rattle.hyphenation.specs.Levels.{wordLooks};
 ghost use Rattle.hyphenation.specs.Breaks.{markHyphens};
@@ -112,10 +112,23 @@ pub fn judge_hyphenate(
     table::judge_table(table)
 }
 
-// An exception line's hyphens, put into the room.
-fn mark_line(line: &[u8], room: &mut [u8])
+// Do the margins fit around gap i of n letters?
+fn is_inside(left: usize, right: usize, n: usize, i: usize) -> bool
+    ensures { λ r. ⌜ r ≡ inMargins left right n i ⌝ }
+{
+    if i < left {
+        return false;
+    }
+    if n < i {
+        return right == 0; // no letter is left
+    }
+    right <= n - i
+}
+
+// Those hyphens of an exception line that count for a word of n letters, put into the room.
+fn mark_line(left: usize, right: usize, n: usize, line: &[u8], room: &mut [u8])
     requires { ⌜ roomSize ≤ length (now room) ⌝ }
-    ensures { λ _. ⌜ now (room .exit) ≡ markHyphens 0 (now (line .entry)) (now (room .entry)) ⌝ }
+    ensures { λ _. ⌜ now (room .exit) ≡ markHyphens (inMargins left right n) 0 (now (line .entry)) (now (room .entry)) ⌝ }
 {
     let mut gap: usize = 0;
     let mut i = 0;
@@ -126,7 +139,9 @@ fn mark_line(line: &[u8], room: &mut [u8])
             gap += 1;
         } else {
             if gap < base::ROOM_SIZE {
-                room[gap] = 1;
+                if is_inside(left, right, n, gap) {
+                    room[gap] = 1;
+                }
             }
         }
     }
@@ -164,13 +179,13 @@ fn find_levels(cells: &[u8], entries: &[u8], root: u16, word: &[u8], room: &mut 
     }
 }
 
-// The breaks by an exception line.
-fn put_line_breaks(line: &[u8], room: &mut [u8])
+// The breaks of a word of n letters by its exception line.
+fn put_line_breaks(left: usize, right: usize, n: usize, line: &[u8], room: &mut [u8])
     requires { ⌜ roomSize ≤ length (now room) ⌝ }
-    ensures { λ _. ⌜ now (room .exit) ≡ written roomSize (lineSheet (now (line .entry))) (now (room .entry)) ⌝ }
+    ensures { λ _. ⌜ now (room .exit) ≡ written roomSize (lineSheet left right n (now (line .entry))) (now (room .entry)) ⌝ }
 {
     rooms::clear_from(room, 0, base::ROOM_SIZE);
-    mark_line(line, room);
+    mark_line(left, right, n, line, room);
 }
 
 // The breaks of a judged word by the levels, and the count of looks.
@@ -210,11 +225,11 @@ fn find_breaks<'a>(
     let at = lookup::find_either(word, customer, house);
     let looks = match at {
         Located::Customer { start, end } => {
-            put_line_breaks(&customer[start..end], room);
+            put_line_breaks(left, right, word.len(), &customer[start..end], room);
             0 // a customer's line takes no look
         }
         Located::House { start, end } => {
-            put_line_breaks(&house[start..end], room);
+            put_line_breaks(left, right, word.len(), &house[start..end], room);
             0 // nor does the house's
         }
         Located::Nowhere => put_level_breaks(left, right, cells, entries, root, word, room),

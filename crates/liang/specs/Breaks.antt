@@ -1,4 +1,4 @@
--- Breaks: what an exception line's hyphens say, and what the odd levels inside the margins do.
+-- Breaks: the hyphens of an exception line inside the margins, and the odd levels inside them.
 use Prim.Native.Nat.{ℕ, zero, suc, _-_, _%_}
 use mathlib.Core.Bool.{Bool, false, cond, _&&_, _||_}
 use mathlib.Core.List.{List, [], _∷_}
@@ -16,6 +16,11 @@ hyphenAt (b ∷ t) (suc gap) = cond (eqb b hyphen) (hyphenAt t (suc gap)) (hyphe
 -- "i at least the left margin and n - i at least the right margin"
 unfoldable pub inMargins : ℕ → ℕ → ℕ → ℕ → Bool
 inMargins left right n i = leb left i && leb right (n - i)
+
+-- CR 1: "an exception's hyphen counts only where the left margin fits before it and the right margin after it". n is the number of
+-- the word's letters, not of the line's bytes.
+unfoldable pub lineBreak : ℕ → ℕ → ℕ → List ℕ → ℕ → Bool
+lineBreak left right n line i = inMargins left right n i && hyphenAt line i
 
 unfoldable pub odd : ℕ → Bool
 odd level = eqb (level % 2) 1

@@ -91,7 +91,7 @@ line-low level (b ∷ t) h gap = go (digit b) refl (eqb (symbolOf b) 0) (λ l k 
     go false p false next (suc gap) = next 0 (omega arith) gap
 
 -- every line of a list that has no bad line is good
-each-good : (form : Form) (at : ℕ) (above : List ℕ) (ls : List (List ℕ)) → firstBad form at above ls ≡ Good → (i : ℕ) → i < length ls → goodLine form (getD ls i []) ≡ true
+pub each-good : (form : Form) (at : ℕ) (above : List ℕ) (ls : List (List ℕ)) → firstBad form at above ls ≡ Good → (i : ℕ) → i < length ls → goodLine form (getD ls i []) ≡ true
 each-good form at above [] e i h = absurd (omega arith)
 each-good form at above (l ∷ ls) e zero h = passed form at above l ls e .good
 each-good form at above (l ∷ ls) e (suc i) h = each-good form (at + length l) l ls (passed form at above l ls e .onward) i (omega arith)

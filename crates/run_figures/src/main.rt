@@ -1,6 +1,11 @@
-// The figures of document 01 that are run and compared: judgements of words and lists, and lookups. Each line of the output is
-// a sample and what it is told: number, list and place, all 0 where nothing is refused; or the line that is shown for a word.
+// The figures of document 01 that are run and compared, judgements of words and lists and lookups, and those of CR 1, breaks by
+// exception lines. Each line of the output is a sample and what it is told: number, list and place, all 0 where nothing is refused;
+// the line that is shown for a word; or, behind word and margins, the number of breaks, the count and the gaps that break.
 use base::Check;
+use hyphenation::Answer;
+
+// "Empty list: C 1, E 0, 12 bytes": a table in which no walk finds anything.
+const EMPTY_TABLE: [u8; 12] = [1, 1, 0, 1, 0, 0, 2, 0, 0, 0, 0, 0];
 
 fn show(sample: &[u8], judged: Check) {
     io::write_all(1, sample);
@@ -40,6 +45,44 @@ fn find<'a>(sample: &[u8], customer: &'a [u8], house: &'a [u8]) {
     io::write_all(1, sample);
     io::write_all(1, b": ");
     io::write_all(1, lookup::lookup(sample, customer, house));
+    io::write_all(1, b"\n");
+}
+
+fn gaps(room: &[u8]) {
+    let mut i = 0;
+    while i < room.len() {
+        if room[i] != 0 {
+            io::write_all(1, b" ");
+            io::print_decimal(1, i as u64);
+        }
+        i += 1;
+    }
+}
+
+fn breaks<'a>(left: usize, right: usize, sample: &[u8], customer: &'a [u8], house: &'a [u8]) {
+    let mut room = [0u8; base::ROOM_SIZE];
+    let answer = hyphenation::hyphenate(
+        left,
+        right,
+        sample,
+        customer,
+        house,
+        &EMPTY_TABLE,
+        &mut room,
+    );
+    io::write_all(1, sample);
+    io::write_all(1, b" ");
+    io::print_decimal(1, left as u64);
+    io::write_all(1, b" ");
+    io::print_decimal(1, right as u64);
+    io::write_all(1, b":");
+    if let Answer::Found { marks, looks } = answer {
+        io::write_all(1, b" ");
+        io::print_decimal(1, marks as u64);
+        io::write_all(1, b" ");
+        io::print_decimal(1, looks as u64);
+    }
+    gaps(&room);
     io::write_all(1, b"\n");
 }
 
@@ -100,10 +143,7 @@ fn some_exceptions() {
     exceptions(b"aaaaaaaaaaaaaaaaaaaaaaaaaaaaaaaaaaaaaaaaaaaaaaaaaaaaaaaaaaaaaaaa\n");
 }
 
-fn main() {
-    some_words();
-    some_patterns();
-    some_exceptions();
+fn some_lookups() {
     find(b"metal", b"", b"met-al\n");
     find(b"METAL", b"", b"al\nmet-al\n");
     find(b"meta", b"", b"met-al\n");
@@ -111,4 +151,22 @@ fn main() {
     find(b"idler", b"idler\n", b"id-ler\n");
     find(b"idler", b"-idler\n", b"id-ler\n");
     find(b"id1er", b"", b"id-ler\n");
+}
+
+fn some_breaks() {
+    breaks(2, 3, b"metal", b"", b"met-al\n");
+    breaks(2, 2, b"metal", b"", b"met-al\n");
+    breaks(2, 3, b"METAL", b"met-al\n", b"me-tal\n");
+    breaks(4, 1, b"metal", b"me-t-a-l\n", b"met-al\n");
+    breaks(2, 3, b"hyphenation", b"hyph-e-nati-on\n", b"");
+    breaks(2, 3, b"idler", b"idler\n", b"id-ler\n");
+    breaks(2, 3, b"idler", b"", b"id-ler\n");
+}
+
+fn main() {
+    some_words();
+    some_patterns();
+    some_exceptions();
+    some_lookups();
+    some_breaks();
 }

@@ -2,7 +2,7 @@
 //! room. Answers are the 64 bits that the C interface gives.
 
 use super::fit::first_fit;
-use super::liang::breaks;
+use super::liang::{breaks, inside};
 use super::right::Judge;
 use super::table::Table;
 use super::text::{read_exceptions, read_patterns, read_word, Exception, Pattern};
@@ -103,7 +103,7 @@ fn try_hyphenate(
     let exceptions = Exceptions::read(customer, house)?;
     let table = Table::new(table).ok_or_else(|| Refusal::plain(9))?;
     let (gaps, looks) = match exceptions.find(&letters) {
-        Some((_, line)) => (line.hyphens.clone(), 0),
+        Some((_, line)) => (inside(&line.hyphens, letters.len(), left, right), 0),
         None => {
             let (levels, looks) = table.levels(&letters);
             (breaks(&levels, left, right), looks)
@@ -220,8 +220,12 @@ mod tests {
         assert_eq!((room[2], room[6], room[64]), (1, 1, 9));
         assert_eq!(call(b"on", b"", b"", &mut room), 6);
         assert_eq!(levels(b"on", &table, &mut room), 1 << 32 | 6);
-        assert_eq!(call(b"metal", b"", b"met-al\n", &mut room), 1 << 32);
-        assert_eq!(room[3], 1);
+        assert_eq!(call(b"metal", b"", b"met-al\n", &mut room), 0);
+        assert_eq!(room[1..5], [0; 4]);
+        let wide = hyphenate(2, 2, b"metal", b"", b"met-al\n", &table, &mut room);
+        assert_eq!((wide, room[3]), (1 << 32, 1));
+        assert_eq!(lookup(b"metal", b"", b"met-al\n"), 2 << 48 | 6);
+        assert_eq!(call(b"metal", b"met-al\n", b"me-tal\n", &mut room), 0);
         assert_eq!(call(b"idler", b"idler\n", b"id-ler\n", &mut room), 0);
         assert_eq!(lookup(b"Idler", b"", b"a\nid-ler\n"), 2 << 48 | 2 << 16 | 6);
         assert_eq!(call(&[b'a'; 64], b"", b"", &mut room), 4 << 56);

@@ -43,10 +43,16 @@ fn apply(pattern: &Pattern, place: usize, levels: &mut [u8]) {
 /// The gaps at which a word may break by its levels and the margins.
 pub fn breaks(levels: &[u8], left: u64, right: u64) -> Vec<usize> {
     let letters = levels.len() - 1;
-    (1..letters)
-        .filter(|&gap| levels[gap] % 2 == 1)
-        .filter(|&gap| gap as u64 >= left && (letters - gap) as u64 >= right)
-        .collect()
+    let odd: Vec<usize> = (1..letters).filter(|&gap| levels[gap] % 2 == 1).collect();
+    inside(&odd, letters, left, right)
+}
+
+/// Those gaps of a word that have the left margin's letters before them and
+/// the right margin's after them, whether levels or an exception line named
+/// them (CR 1).
+pub fn inside(gaps: &[usize], letters: usize, left: u64, right: u64) -> Vec<usize> {
+    let fits = |gap: usize| gap as u64 >= left && (letters - gap) as u64 >= right;
+    gaps.iter().copied().filter(|&gap| fits(gap)).collect()
 }
 
 /// The length of the longest beginning of a pattern that stands at a place.

@@ -1,6 +1,7 @@
 //! Exception lists in the hyphenating call and the lookup.
 
 use super::patterns::all_texts;
+use super::words::breaks_everywhere;
 use super::{Packed, NINE};
 use crate::run::{demand, Run};
 use outside::lab::{margins, Lab, Mismatch};
@@ -52,6 +53,70 @@ pub fn random_lists(run: &mut Run) -> Result<(), Mismatch> {
         }
         Ok(())
     })
+}
+
+/// Every line of up to ten letters under all margins around them, as the
+/// customer's line and as the house's. Levels and the other list would break
+/// the word everywhere, so that a line which doesn't decide shows.
+pub fn line_margins(run: &mut Run) -> Result<(), Mismatch> {
+    let table = breaks_everywhere().table;
+    run.once(|lab, _| {
+        for letters in 1..=10 {
+            let word = &b"abcdefghij"[..letters];
+            let rival = hyphened(word, u64::MAX);
+            for hyphens in 0..1u64 << (letters - 1) {
+                let line = hyphened(word, hyphens);
+                lab.lookup(word, &line, &rival)?;
+                for left in 1..=letters as u64 + 1 {
+                    for right in 1..=letters as u64 + 1 {
+                        let mine = lab.hyphenate(left, right, word, &line, &rival, &table, 64)?;
+                        demand(mine as u32 == 0, || "a count of 0".to_string())?;
+                        lab.hyphenate(left, right, word, b"", &line, &table, 64)?;
+                    }
+                }
+            }
+        }
+        Ok(())
+    })
+}
+
+/// The longest word with a hyphen in every gap, under all margins.
+pub fn long_line_margins(run: &mut Run) -> Result<(), Mismatch> {
+    let table = breaks_everywhere().table;
+    run.once(|lab, _| {
+        for letters in [62, 63] {
+            let word = vec![b'w'; letters];
+            let line = hyphened(&word, u64::MAX);
+            for left in 1..=63 {
+                for right in 1..=63 {
+                    let both = [(&line[..], &b""[..]), (b"", &line)];
+                    for (customer, house) in both {
+                        let answer =
+                            lab.hyphenate(left, right, &word, customer, house, &table, 64)?;
+                        let breaks = (letters as u64 + 1).saturating_sub(left + right);
+                        demand(answer == breaks << 32, || {
+                            format!("{} breaks with margins {}, {}", breaks, left, right)
+                        })?;
+                    }
+                }
+            }
+        }
+        Ok(())
+    })
+}
+
+/// A word's line with a hyphen in each gap whose bit is set, the first gap's
+/// lowest.
+fn hyphened(word: &[u8], gaps: u64) -> Vec<u8> {
+    let mut line = Vec::new();
+    for (place, &letter) in word.iter().enumerate() {
+        if place > 0 && gaps >> (place - 1) & 1 == 1 {
+            line.push(b'-');
+        }
+        line.push(letter);
+    }
+    line.push(b'\n');
+    line
 }
 
 /// All short texts over the bytes that matter, as either list.

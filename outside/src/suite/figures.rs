@@ -89,8 +89,17 @@ fn nine_patterns(lab: &mut Lab, table: &[u8]) -> Result<(), Mismatch> {
 
 fn exception_lines(lab: &mut Lab, table: &[u8]) -> Result<(), Mismatch> {
     let metal = lab.hyphenate(2, 3, b"metal", b"", b"met-al\n", table, 64)?;
-    same("metal", metal, 1 << 32)?;
+    same("metal with margins 2, 3", metal, 0)?;
+    demand(lab.room()[..64] == [0; 64], || {
+        "no break of metal".to_string()
+    })?;
+    let metal = lab.hyphenate(2, 2, b"metal", b"", b"met-al\n", table, 64)?;
+    same("metal with margins 2, 2", metal, 1 << 32)?;
     demand(lab.room()[3] == 1, || "break of metal".to_string())?;
+    let line = lab.lookup(b"metal", b"", b"met-al\n")?;
+    same("line of metal", line, 2 << 48 | 6)?;
+    let metal = lab.hyphenate(2, 3, b"metal", b"met-al\n", b"me-tal\n", table, 64)?;
+    same("metal by the customer's line", metal, 0)?;
     let idler = lab.hyphenate(2, 3, b"idler", b"idler\n", b"id-ler\n", table, 64)?;
     same("idler", idler, 0)?;
     let line = lab.lookup(b"IDLER", b"idler\n", b"id-ler\n")?;

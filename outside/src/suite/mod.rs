@@ -108,6 +108,8 @@ pub fn all(options: &Options) -> Vec<Test> {
     add("pattern-bytes", patterns::all_bytes);
     add("pattern-text-limit", patterns::text_limit);
     add("exceptions", exceptions::random_lists);
+    add("exception-margins", exceptions::line_margins);
+    add("exception-long-margins", exceptions::long_line_margins);
     add("exception-texts", exceptions::all_short_texts);
     add("exception-bytes", exceptions::all_bytes);
     add("exception-text-limit", exceptions::text_limit);

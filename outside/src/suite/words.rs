@@ -6,7 +6,7 @@ use outside::lab::{Lab, Mismatch};
 use outside::make::words as make;
 
 /// A list under which every inner gap has an odd level.
-fn breaks_everywhere() -> Packed {
+pub fn breaks_everywhere() -> Packed {
     let text: Vec<u8> = (b'a'..=b'z')
         .flat_map(|letter| [b'1', letter, b'\n'])
         .collect();
