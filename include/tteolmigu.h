@@ -9,16 +9,23 @@
  * writes anything but the memory that it is lent, so any number of threads may call at once as long as no two of them share a room.
  *
  * Lent memory. Every text, table and room is a pointer and a size in bytes. A pointer must not be null, even where the size is 0, and
- * must have as many bytes as the size says. Only 'room' is written; it must not overlap any other argument. Texts and tables may hold
- * any bytes: each call ends with a finding or with a numbered refusal, whatever they hold.
+ * must have as many bytes as the size says. Only 'room' is written, and by tteolmigu_fit not even that; where it is written, it must
+ * not overlap any other argument. Texts and tables may hold any bytes, and widths any doubles: each call ends with a finding or with a
+ * numbered refusal, whatever they hold.
  *
  * Tables. A table is a head of 6 bytes, then C cells of 6 bytes each, then E entries of 5 bytes each, and nothing behind. Bytes 0 and 1
  * are the head's kind and the edition, both 1. Bytes 2 and 3 tell C and bytes 4 and 5 tell E, each with the high byte first. The length
  * is 6 + 6C + 5E. docs/FORMATS.md has cells and entries, to the byte.
  *
+ * Widths. A width is a double, an IEEE 754 binary64 number, in millimetres. Sums of widths are taken one addition after the other, each
+ * rounded once to a double: to nearest, ties to even, subnormal numbers kept. That is the processor's state as every program starts with
+ * it; a thread that changed it (fesetround, flushing subnormals to zero, or feenableexcept, which a signalling not-a-number would
+ * trip) must change it back before it calls tteolmigu_fit. The archive adds with SSE2's addsd alone, so that nothing is kept wider than
+ * a double and no two operations become one; tests/floats holds it to that.
+ *
  * Stack. Pack takes at most TTEOLMIGU_PACK_STACK bytes and every other call at most TTEOLMIGU_STACK, whatever texts and tables hold;
- * as compiled today these are 18,764 bytes for pack, 616 for hyphenate, 376 for levels, 348 for check and 220 for lookup. No function
- * calls itself, so that a chain of 2,048 entries takes no more than a single entry. This isn't proved; tests/stack holds the archive to
+ * as compiled today these are 18,764 bytes for pack, 616 for hyphenate, 376 for levels, 348 for check, 220 for lookup and at most 64
+ * for fit. No function calls itself, so that a chain of 2,048 entries takes no more than a single entry. This isn't proved; tests/stack holds the archive to
  * it, with the longest chains and the fullest lists. Where a program's symbols are bound lazily, the loader takes stack of its own
  * besides, once, at the first memset or memcpy.
  *
@@ -39,6 +46,7 @@
  *   10  the pack room has fewer than 59,398 bytes
  *   11  the table of this list would need more than 8,192 cells or 2,048 entries
  *   12  the table isn't right for the list
+ *   13  a width outside 0 to 1,000, or not a number: the hyphen's, the line's or one of the 26 letters'
  *
  * A refusal leaves the room as it was, but for ground 11, which sets the room's first 59,398 bytes to zero.
  */
@@ -54,7 +62,7 @@ extern "C" {
 
 /* The version of this header and of the library that it declares. A later one has a greater TTEOLMIGU_VERSION. */
 #define TTEOLMIGU_VERSION_MAJOR 1
-#define TTEOLMIGU_VERSION_MINOR 1
+#define TTEOLMIGU_VERSION_MINOR 2
 #define TTEOLMIGU_VERSION_PATCH 0
 #define TTEOLMIGU_VERSION (TTEOLMIGU_VERSION_MAJOR * 1000000 + TTEOLMIGU_VERSION_MINOR * 1000 + TTEOLMIGU_VERSION_PATCH)
 
@@ -67,6 +75,11 @@ extern "C" {
 #define TTEOLMIGU_MARGIN_LEAST 1u   /* a margin, at least */
 #define TTEOLMIGU_MARGIN_LIMIT 63u  /* a margin, at most */
 #define TTEOLMIGU_LOOK_LIMIT 1040u  /* cells looked at for a word, at most: 16 * (63 + 2) */
+
+/* Widths. */
+#define TTEOLMIGU_WIDTHS 26u           /* letter widths: one for each letter, a to z */
+#define TTEOLMIGU_WIDTH_LEAST 0.0      /* a width, at least */
+#define TTEOLMIGU_WIDTH_LIMIT 1000.0   /* a width, at most */
 
 /* Lists. */
 #define TTEOLMIGU_PATTERN_TEXT 32768u   /* bytes of a pattern list, at most */
@@ -88,7 +101,7 @@ extern "C" {
 #define TTEOLMIGU_TABLE_LIMIT TTEOLMIGU_PACK_ROOM  /* bytes of a table, at most */
 
 /* Stack in bytes that a call takes at most: what tests/stack sees, with some air. */
-#define TTEOLMIGU_STACK 1024u        /* hyphenate, levels, check and lookup */
+#define TTEOLMIGU_STACK 1024u        /* hyphenate, levels, check, lookup and fit */
 #define TTEOLMIGU_PACK_STACK 20480u  /* pack, which has its arrays there */
 
 /* The numbers of the grounds, as listed above. */
@@ -104,7 +117,15 @@ enum tteolmigu_ground {
     TTEOLMIGU_TABLE_FORM = 9,
     TTEOLMIGU_PACK_ROOM_SHORT = 10,
     TTEOLMIGU_NO_FIT = 11,
-    TTEOLMIGU_NOT_RIGHT = 12
+    TTEOLMIGU_NOT_RIGHT = 12,
+    TTEOLMIGU_BAD_WIDTH = 13
+};
+
+/* What tteolmigu_fit finds. */
+enum tteolmigu_fitting {
+    TTEOLMIGU_WHOLE = 1, /* the whole word fits */
+    TTEOLMIGU_BREAK = 2, /* the whole word doesn't, and this is the last of its breaks that fits with its hyphen */
+    TTEOLMIGU_NONE = 3   /* neither the whole word nor a break fits */
 };
 
 /*
@@ -154,6 +175,21 @@ uint64_t tteolmigu_lookup(const uint8_t *word, size_t word_size,
                           const uint8_t *customer, size_t customer_size,
                           const uint8_t *house, size_t house_size);
 
+/*
+ * Which break of a word fits a line: the whole word, else the last break that fits with its hyphen, else none. 'hyphen' and 'line' are
+ * the widths of a hyphen and of the line, and 'widths' points to TTEOLMIGU_WIDTHS doubles, aligned as such, the widths of a to z; a
+ * capital is as wide as its small letter. The room is a break room as tteolmigu_hyphenate leaves it: of its bytes 1 to n - 1 for a word of n letters, each
+ * that isn't 0 is a break, and no other byte matters. Nothing is written.
+ *
+ * A width is the sum of the letters' widths from the left, starting at 0, each addition rounded once; for a break the hyphen's is
+ * added last. It fits where it isn't above the line's. Grounds 5, 2, 4, 3, 13, in this order; all 28 widths are judged, whether the
+ * word has the letter or not, and -0.0 is 0. tteolmigu_outcome has what came out, tteolmigu_gap for a break how many letters stand
+ * before it.
+ */
+uint64_t tteolmigu_fit(double hyphen, double line, const double *widths,
+                       const uint8_t *word, size_t word_size,
+                       const uint8_t *room, size_t room_size);
+
 /* Of every answer: the number of the ground, 0 for a finding. */
 static inline unsigned tteolmigu_number(uint64_t answer)
 {
@@ -200,6 +236,18 @@ static inline size_t tteolmigu_offset(uint64_t answer)
 static inline size_t tteolmigu_length(uint64_t answer)
 {
     return (size_t)(answer & 0xffffu);
+}
+
+/* Of a finding of fit: what came out, one of enum tteolmigu_fitting. */
+static inline unsigned tteolmigu_outcome(uint64_t answer)
+{
+    return (unsigned)(answer >> 32 & 0xffu);
+}
+
+/* Of a finding of fit: the break's gap, how many letters stand before it; 0 where it is no break. */
+static inline uint32_t tteolmigu_gap(uint64_t answer)
+{
+    return (uint32_t)(answer & UINT64_C(0xffffffff));
 }
 
 /*

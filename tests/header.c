@@ -4,6 +4,7 @@
  */
 #include "tteolmigu.h"
 
+#include <math.h>
 #include <stdio.h>
 #include <string.h>
 
@@ -200,6 +201,104 @@ static void limit_of_looks(void)
     expect("the limit of looks", TTEOLMIGU_LOOK_LIMIT == TTEOLMIGU_PATTERN_LIMIT * (TTEOLMIGU_WORD_LIMIT + 2));
 }
 
+/* The next greater double of one that isn't below 0; of -0.0 the next smaller one. */
+static double beyond(double width)
+{
+    uint64_t bits;
+
+    memcpy(&bits, &width, sizeof bits);
+    bits++;
+    memcpy(&width, &bits, sizeof width);
+    return width;
+}
+
+static double widths[TTEOLMIGU_WIDTHS];
+
+static void set_widths(double width)
+{
+    size_t letter;
+
+    for (letter = 0; letter < TTEOLMIGU_WIDTHS; letter++)
+        widths[letter] = width;
+}
+
+static uint64_t fit(double hyphen, double line, const char *word)
+{
+    return tteolmigu_fit(hyphen, line, widths, bytes(word), strlen(word), room, TTEOLMIGU_ROOM);
+}
+
+static int fits(uint64_t answer, unsigned outcome, uint32_t gap)
+{
+    return tteolmigu_number(answer) == 0 && tteolmigu_outcome(answer) == outcome && tteolmigu_gap(answer) == gap;
+}
+
+/* The number on which a width is refused, as the hyphen's, as the line's and as that of a letter which the word hasn't. */
+static int judged(double width, unsigned number)
+{
+    int same;
+
+    set_widths(1.0);
+    same = tteolmigu_number(fit(width, 1.0, "on")) == number && tteolmigu_number(fit(1.0, width, "on")) == number;
+    widths[TTEOLMIGU_WIDTHS - 1] = width;
+    return same && tteolmigu_number(fit(1.0, 1.0, "on")) == number;
+}
+
+/* The breaks that the hyphenating call leaves in its room, on lines of many widths. */
+static void fits_of_words(void)
+{
+    size_t size = tteolmigu_size(pack("hen5at\nhy3ph\n"));
+    uint8_t before[sizeof room];
+    uint64_t r;
+
+    set_widths(0.5);
+    widths['y' - 'a'] = 1.5;
+    r = hyphenate(2, 3, "hyphenation", "", "", size);
+    expect("two breaks", tteolmigu_marks(r) == 2 && room[2] != 0 && room[6] != 0);
+    memcpy(before, room, sizeof room);
+    expect("the whole word fits", fits(fit(0.25, 6.5, "hyphenation"), TTEOLMIGU_WHOLE, 0));
+    expect("the last break fits", fits(fit(0.25, 6.4, "hyphenation"), TTEOLMIGU_BREAK, 6));
+    expect("it just fits", fits(fit(0.25, 4.25, "Hyphenation"), TTEOLMIGU_BREAK, 6));
+    expect("the first break fits", fits(fit(0.25, 4.2, "hYphenation"), TTEOLMIGU_BREAK, 2));
+    expect("none fits", fits(fit(0.25, 2.2, "hyphenation"), TTEOLMIGU_NONE, 0));
+    expect("the whole word without its hyphen", fits(fit(9.0, 6.5, "hyphenation"), TTEOLMIGU_WHOLE, 0));
+    expect("a break outside the word", fits(fit(0.25, 1.2, "ny"), TTEOLMIGU_NONE, 0));
+    set_widths(0.1);
+    expect("ten tenths are less than 1", fits(fit(0.0, 0.9999999999999999, "hyphenates"), TTEOLMIGU_WHOLE, 0));
+    expect("three are more than 0.3", fits(fit(0.0, 0.3, "one"), TTEOLMIGU_BREAK, 2));
+    room[2] = 0;
+    expect("as a break isn't", fits(fit(0.0, 0.3, "one"), TTEOLMIGU_NONE, 0));
+    room[2] = before[2];
+    expect("the room is only read", memcmp(room, before, sizeof room) == 0);
+}
+
+static void limits_of_widths(void)
+{
+    uint64_t r;
+
+    memset(room, 0, sizeof room);
+    expect("a width for each letter", TTEOLMIGU_WIDTHS == 'z' - 'a' + 1);
+    expect("limits of widths are doubles", sizeof TTEOLMIGU_WIDTH_LEAST == 8 && sizeof TTEOLMIGU_WIDTH_LIMIT == 8);
+    expect("the least width", judged(TTEOLMIGU_WIDTH_LEAST, 0));
+    expect("0 with a minus", judged(-0.0, 0));
+    expect("less than 0", judged(beyond(-0.0), TTEOLMIGU_BAD_WIDTH));
+    expect("the least above 0", judged(beyond(0.0), 0));
+    expect("the greatest width", judged(TTEOLMIGU_WIDTH_LIMIT, 0));
+    expect("a greater width", judged(beyond(TTEOLMIGU_WIDTH_LIMIT), TTEOLMIGU_BAD_WIDTH));
+    expect("not a number", judged(NAN, TTEOLMIGU_BAD_WIDTH) && judged(-NAN, TTEOLMIGU_BAD_WIDTH));
+    expect("infinite", judged(INFINITY, TTEOLMIGU_BAD_WIDTH) && judged(-INFINITY, TTEOLMIGU_BAD_WIDTH));
+
+    set_widths(-1.0);
+    r = fit(0.0, 1.0, "on");
+    expect("a width tells no place", r == (uint64_t)TTEOLMIGU_BAD_WIDTH << 56);
+    expect("a digit goes before", fit(0.0, 1.0, "o1") == ((uint64_t)TTEOLMIGU_NOT_LETTER << 56 | 1));
+    expect("a long word before", fit(0.0, 1.0, letters(TTEOLMIGU_WORD_LIMIT + 1, "1")) == (uint64_t)TTEOLMIGU_WORD_LONG << 56);
+    expect("an empty word before", fit(0.0, 1.0, "") == (uint64_t)TTEOLMIGU_WORD_EMPTY << 56);
+    r = tteolmigu_fit(0.0, 1.0, widths, bytes(""), 0, room, TTEOLMIGU_ROOM - 1);
+    expect("a short room before all", r == (uint64_t)TTEOLMIGU_ROOM_SHORT << 56);
+    set_widths(1.0);
+    expect("a line for the longest word", fits(fit(0.0, 63.0, letters(TTEOLMIGU_WORD_LIMIT, "")), TTEOLMIGU_WHOLE, 0));
+}
+
 int main(void)
 {
     const char *nine = "he2n\nhena4\nhen5at\nhy3ph\n2io\n1na\nn2at\no2n\n1tio\n";
@@ -262,7 +361,9 @@ int main(void)
     expect("no refusal", lookup("o1", "", "met-al\n") == 0);
 
     versions();
+    fits_of_words();
     limits_of_words();
+    limits_of_widths();
     limits_of_lists();
     limits_of_tables();
     limit_of_looks();

@@ -33,9 +33,9 @@
 #define PATTERNS 32768u
 #define EXCEPTIONS 8192u
 
-enum call { NOTHING, TAKE, HYPHENATE, LEVELS, PACK, CHECK, LOOKUP, CALLS };
+enum call { NOTHING, TAKE, HYPHENATE, LEVELS, PACK, CHECK, LOOKUP, FIT, CALLS };
 
-static const char *const names[CALLS] = {"nothing", "take", "hyphenate", "levels", "pack", "check", "lookup"};
+static const char *const names[CALLS] = {"nothing", "take", "hyphenate", "levels", "pack", "check", "lookup", "fit"};
 
 struct bytes {
     uint8_t *at;
@@ -46,6 +46,7 @@ struct bytes {
 struct job {
     enum call call;
     struct bytes word, customer, house, list, table;
+    double hyphen, line, widths[TTEOLMIGU_WIDTHS];
 };
 
 /* What a child tells; its memory is shared with the parent. */
@@ -103,6 +104,9 @@ static uint64_t make_call(const struct job *job, uint8_t *marks)
     case LOOKUP:
         return tteolmigu_lookup(job->word.at, job->word.size, job->customer.at, job->customer.size, job->house.at,
                                 job->house.size);
+    case FIT:
+        /* As the room stands before a call, every gap is a break. */
+        return tteolmigu_fit(job->hyphen, job->line, job->widths, job->word.at, job->word.size, marks, TTEOLMIGU_ROOM);
     default:
         return 0;
     }
@@ -223,6 +227,20 @@ static void check(const char *what, struct bytes list, struct bytes table, uint6
 static void lookup(const char *what, struct bytes word, struct bytes customer, struct bytes house, uint64_t want)
 {
     one(what, (struct job){.call = LOOKUP, .word = word, .customer = customer, .house = house}, want);
+}
+
+/* A hyphen of 0.05 and letters of 0.1, but that the width of z is given. The room is only read. */
+static void fit(const char *what, struct bytes word, double line, double last, uint64_t want)
+{
+    struct job job = {.call = FIT, .word = word, .hyphen = 0.05, .line = line};
+    uint8_t sheet[TTEOLMIGU_ROOM];
+
+    for (size_t i = 0; i + 1 < TTEOLMIGU_WIDTHS; i++)
+        job.widths[i] = 0.1;
+    job.widths[TTEOLMIGU_WIDTHS - 1] = last;
+    one(what, job, want);
+    memset(sheet, OLD, sizeof sheet);
+    expect("room", what, "written", memcmp(room, sheet, sizeof sheet) == 0);
 }
 
 static uint64_t refusal(uint64_t ground, uint64_t list, uint64_t place)
@@ -556,6 +574,14 @@ int main(void)
     lookup("the customer's last line", word, held, held, UINT64_C(1) << 48 | last << 16 | (LINE - 1));
     lookup("no line", word, others, others, 0);
     lookup("the house's last line bad", word, held, twice, 0);
+
+    fit("the whole word", word, 6.3, 0.1, UINT64_C(1) << 32);
+    fit("the last break", word, 6.29, 0.1, UINT64_C(2) << 32 | 62);
+    fit("the first break", word, 0.16, 0.1, UINT64_C(2) << 32 | 1);
+    fit("no break", word, 0.14, 0.1, UINT64_C(3) << 32);
+    fit("a digit as last byte", digit, 6.3, 0.1, refusal(3, 0, LETTERS - 1));
+    fit("a word too long", longer(word), 6.3, 0.1, refusal(4, 0, 0));
+    fit("the last width too great", word, 6.3, 1001.0, refusal(13, 0, 0));
 
     list = triples();
     pack("a list of full size", list, packed("a list of full size", list).size);

@@ -53,6 +53,16 @@ pub enum Place {
     Start,
 }
 
+impl Place {
+    /// The same or a place a little lower, at which doubles may lie.
+    pub fn for_doubles(self) -> Place {
+        match self {
+            Place::Middle(shift) => Place::Middle(shift / 8 * 8),
+            edge => edge,
+        }
+    }
+}
+
 /// Memory between two forbidden stretches.
 pub struct Arena {
     whole: *mut u8,
@@ -144,6 +154,18 @@ impl Arena {
     /// The bytes, to be lent for reading.
     pub fn lend(&self) -> &[u8] {
         &self.usable()[self.start..self.start + self.length]
+    }
+
+    /// The same bytes as doubles. They must be just so many, and lie where
+    /// doubles may lie.
+    pub fn lend_doubles<const COUNT: usize>(&self) -> &[f64; COUNT] {
+        let bytes = self.lend();
+        let doubles = bytes.as_ptr() as *const [f64; COUNT];
+        assert_eq!(bytes.len(), std::mem::size_of::<[f64; COUNT]>());
+        assert_eq!(doubles as usize % std::mem::align_of::<f64>(), 0);
+        // Safety: length and place are as needed, any bits are a double's,
+        // and the bytes live as long as `self`.
+        unsafe { &*doubles }
     }
 
     /// The bytes, to be lent for writing.
@@ -264,6 +286,20 @@ mod tests {
             };
             arena.usable_mut()[beside] ^= 1;
             assert!(!arena.holds(b"abc"));
+        }
+    }
+
+    #[test]
+    fn doubles_are_lent_bit_by_bit() {
+        let bits = [0x7ff0_0000_0000_0001, 1 << 63, 0x408f_4000_0000_0000];
+        let bytes: Vec<u8> = bits
+            .iter()
+            .flat_map(|bits: &u64| bits.to_ne_bytes())
+            .collect();
+        let mut arena = Arena::new();
+        for place in [Place::Middle(3), Place::End, Place::Start] {
+            arena.load(&bytes, place.for_doubles());
+            assert_eq!(arena.lend_doubles::<3>().map(f64::to_bits), bits);
         }
     }
 }

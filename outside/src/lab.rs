@@ -5,7 +5,7 @@ use crate::reference;
 use crate::reference::liang;
 use crate::reference::right::Judge;
 use crate::reference::text::read_word;
-use crate::reference::{Pattern, LONGEST};
+use crate::reference::{Gauge, Pattern, LONGEST};
 use crate::rng::Rng;
 use tteolmigu::raw;
 
@@ -19,6 +19,7 @@ pub struct Lab {
     house: Arena,
     table: Arena,
     patterns: Arena,
+    widths: Arena,
     room: Arena,
     place: Place,
     fill: u8,
@@ -39,6 +40,31 @@ fn show(bytes: &[u8]) -> String {
         text.extend(std::ascii::escape_default(byte).map(char::from));
     }
     text.push('"');
+    text
+}
+
+/// Shows widths by their bits, so that none is rounded; equal letters' widths
+/// are shown once.
+fn show_gauge(gauge: &Gauge) -> String {
+    let bits = |width: f64| format!("{:#018x}", width.to_bits());
+    let mut text = format!(
+        "hyphen {} line {} widths",
+        bits(gauge.hyphen),
+        bits(gauge.line)
+    );
+    let mut from = 0;
+    while from < gauge.letters.len() {
+        let width = gauge.letters[from].to_bits();
+        let rest = gauge.letters[from..].iter();
+        let end = from + rest.take_while(|other| other.to_bits() == width).count();
+        let letter = |place: usize| (b'a' + place as u8) as char;
+        text += &match end - from {
+            1 => format!(" {}", letter(from)),
+            _ => format!(" {}..{}", letter(from), letter(end - 1)),
+        };
+        text += &format!(" {}", bits(gauge.letters[from]));
+        from = end;
+    }
     text
 }
 
@@ -81,6 +107,7 @@ impl Lab {
             house: Arena::new(),
             table: Arena::new(),
             patterns: Arena::new(),
+            widths: Arena::new(),
             room: Arena::new(),
             place: Place::Middle(0),
             fill: 0x5a,
@@ -127,6 +154,14 @@ impl Lab {
             self.house.lock(locked);
             self.table.lock(locked);
             self.patterns.lock(locked);
+            self.widths.lock(locked);
+        }
+    }
+
+    /// The same for the room, where a call only reads it.
+    fn turn_key_of_room(&mut self, locked: bool) {
+        if self.locked {
+            self.room.lock(locked);
         }
     }
 
@@ -312,6 +347,41 @@ impl Lab {
                 show(house)
             )
         })
+    }
+
+    /// The call on widths. It is compared with sums as they are compiled and
+    /// with sums made of integers.
+    pub fn fit(&mut self, gauge: &Gauge, word: &[u8], room: &[u8]) -> Result<u64, Mismatch> {
+        let mut widths = [0; 8 * reference::WIDTHS];
+        for (bytes, width) in widths.chunks_mut(8).zip(&gauge.letters) {
+            bytes.copy_from_slice(&width.to_bits().to_ne_bytes());
+        }
+        self.widths.load(&widths, self.place.for_doubles());
+        self.word.load(word, self.place);
+        self.room.load(room, self.place);
+        self.turn_key(true);
+        self.turn_key_of_room(true);
+        let ours = raw::fit(
+            gauge.hyphen,
+            gauge.line,
+            self.widths.lend_doubles(),
+            self.word.lend(),
+            self.room.lend(),
+        );
+        self.turn_key_of_room(false);
+        self.turn_key(false);
+        let theirs = reference::fit_line_by_integers(gauge, word, room);
+        let compiled = reference::fit_line(gauge, word, room);
+        let inputs = self.widths.holds(&widths) && self.word.holds(word);
+        let describe = || {
+            let (word, room) = (show(word), show(room));
+            format!("fit {} word {} room {}", show_gauge(gauge), word, room)
+        };
+        if compiled != theirs {
+            let told = "  the reference's compiled sums aren't those of IEEE 754";
+            return Err(format!("{}: {:#x}\n  {}", told, compiled, describe()));
+        }
+        self.judge(ours, theirs, Some(room), inputs, describe)
     }
 
     /// Levels and breaks of a good word over a table that the checker

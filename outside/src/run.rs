@@ -115,6 +115,12 @@ impl<'a> Run<'a> {
         self.options.words.as_deref().unwrap_or(b"")
     }
 
+    /// Whether at least the usual rounds are run, so that a count over all of
+    /// them may be held to something.
+    pub fn is_whole(&self) -> bool {
+        self.options.round.is_none() && self.options.scale >= 1.0
+    }
+
     /// Adds to a mismatch what is needed to repeat it.
     pub fn located(&self, mismatch: Mismatch) -> Mismatch {
         format!(

@@ -3,7 +3,7 @@
 
 #![forbid(unsafe_code)]
 
-use crate::{Exceptions, Ground, Line, List};
+use crate::{Exceptions, Fit, Ground, Line, List};
 
 /// The bits `from` up to, but without, `to` of an answer.
 pub(crate) fn bits(answer: u64, from: u32, to: u32) -> u64 {
@@ -32,6 +32,17 @@ pub(crate) fn looks(finding: u64) -> u32 {
 /// Of a finding of pack: the table's length.
 pub(crate) fn size(finding: u64) -> usize {
     size_bits(finding, 0, 48)
+}
+
+/// Of a finding of fit on a word of so many letters: what came out. A gap is
+/// checked, not trusted: where it lies outside the word, and for what no
+/// finding tells, nothing fits.
+pub(crate) fn fit(finding: u64, letters: usize) -> Fit {
+    match (bits(finding, 32, 64), size_bits(finding, 0, 32)) {
+        (1, 0) => Fit::Whole,
+        (2, gap) if 0 < gap && gap < letters => Fit::Break(gap),
+        _ => Fit::None,
+    }
 }
 
 /// The line that a lookup's answer names. Offset and length are checked, not
@@ -76,6 +87,21 @@ mod tests {
                 offset: 8_190
             })
         );
+    }
+
+    #[test]
+    fn a_gap_outside_its_word_never_fits() {
+        assert_eq!(fit(1 << 32, 5), Fit::Whole);
+        assert_eq!(fit(2 << 32 | 1, 5), Fit::Break(1));
+        assert_eq!(fit(2 << 32 | 4, 5), Fit::Break(4));
+        assert_eq!(fit(3 << 32, 5), Fit::None);
+        for gap in [0, 5, 6, 63, 64, 0xffff_ffff] {
+            assert_eq!(fit(2 << 32 | gap, 5), Fit::None);
+        }
+        // What no finding tells.
+        for finding in [0, 4, 1 << 32 | 4, 4 << 32, 0x101 << 32, 1 << 48 | 1 << 32] {
+            assert_eq!(fit(finding, 5), Fit::None);
+        }
     }
 
     #[test]

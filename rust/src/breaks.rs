@@ -42,6 +42,15 @@ impl Breaks {
         Breaks { gaps, looks }
     }
 
+    /// What the hyphenating call leaves in its room, again.
+    pub(crate) fn to_room(self) -> [u8; ROOM] {
+        let mut room = [0; ROOM];
+        for (gap, mark) in room.iter_mut().enumerate() {
+            *mark = (self.gaps >> gap & 1) as u8;
+        }
+        room
+    }
+
     /// The positions, ascending.
     ///
     /// From the other end one finds the last break that leaves no more letters
@@ -57,6 +66,8 @@ impl Breaks {
     /// assert_eq!(breaks.iter().rev().find(|&at| at <= 4), Some(3));
     /// # Ok::<(), Ground>(())
     /// ```
+    ///
+    /// Where letters differ in width, [`Gauge::fit`](crate::Gauge::fit) finds it.
     pub fn iter(&self) -> Positions {
         Positions { gaps: self.gaps }
     }
@@ -236,6 +247,16 @@ mod tests {
         }
         let all: Vec<usize> = (0..ROOM).collect();
         assert_eq!(breaks_at(&all).iter().collect::<Vec<_>>(), all);
+    }
+
+    #[test]
+    fn a_room_comes_back() {
+        let places = [0, 1, 2, 6, 31, 32, 62, 63];
+        let room = breaks_at(&places).to_room();
+        for (place, &mark) in room.iter().enumerate() {
+            assert_eq!(mark, u8::from(places.contains(&place)));
+        }
+        assert_eq!(Breaks::of_room(&room, 27), breaks_at(&places));
     }
 
     #[test]

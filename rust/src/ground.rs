@@ -4,7 +4,8 @@
 
 use crate::answer::bits;
 use crate::{
-    List, CELL_LIMIT, ENTRY_LIMIT, MARGIN_LEAST, MARGIN_LIMIT, PACK_ROOM, ROOM, WORD_LIMIT,
+    List, CELL_LIMIT, ENTRY_LIMIT, MARGIN_LEAST, MARGIN_LIMIT, PACK_ROOM, ROOM, WIDTH_LEAST,
+    WIDTH_LIMIT, WORD_LIMIT,
 };
 use core::fmt;
 
@@ -65,6 +66,9 @@ pub enum Ground {
     NoFit,
     /// 12: the table isn't right for the list.
     NotRight,
+    /// 13: a width outside 0 to 1,000, or not a number: the hyphen's, the
+    /// line's or one of the 26 letters'.
+    BadWidth,
     /// A refusal that this version doesn't know. The library that the crate
     /// was made with never gives one.
     #[non_exhaustive]
@@ -134,6 +138,7 @@ impl Ground {
             (10, 0, 0) => Ground::PackRoomShort,
             (11, 0, 0) => Ground::NoFit,
             (12, 0, 0) => Ground::NotRight,
+            (13, 0, 0) => Ground::BadWidth,
             _ => unknown,
         }
     }
@@ -145,7 +150,7 @@ impl Ground {
     ///
     /// assert_eq!(Ground::Margin.number(), 1);
     /// assert_eq!(Ground::NotLetter { place: 5 }.number(), 3);
-    /// assert_eq!(Ground::NotRight.number(), 12);
+    /// assert_eq!(Ground::BadWidth.number(), 13);
     /// ```
     pub const fn number(self) -> u8 {
         match self {
@@ -161,6 +166,7 @@ impl Ground {
             Ground::PackRoomShort => 10,
             Ground::NoFit => 11,
             Ground::NotRight => 12,
+            Ground::BadWidth => 13,
             Ground::Unknown { number, .. } => number,
         }
     }
@@ -237,6 +243,11 @@ impl fmt::Display for Ground {
                 CELL_LIMIT, ENTRY_LIMIT
             ),
             Ground::NotRight => write!(out, "the table isn't right for the list"),
+            Ground::BadWidth => write!(
+                out,
+                "a width outside {} to {}, or not a number",
+                WIDTH_LEAST, WIDTH_LIMIT
+            ),
             Ground::Unknown { list, place, .. } => {
                 write!(out, "unknown here, with list {} and place {}", list, place)
             }
@@ -283,7 +294,7 @@ mod tests {
             assert_eq!(ground.number(), number);
             numbers.push(number);
         }
-        assert_eq!(numbers, (1..=12).collect::<Vec<u8>>());
+        assert_eq!(numbers, (1..=13).collect::<Vec<u8>>());
     }
 
     #[test]
@@ -302,7 +313,15 @@ mod tests {
 
     #[test]
     fn findings_have_no_ground() {
-        for finding in [0, 1, 27, 59_398, 2 << 32 | 27, answer(0, 2, 8 << 16 | 6)] {
+        for finding in [
+            0,
+            1,
+            27,
+            59_398,
+            3 << 32,
+            2 << 32 | 27,
+            answer(0, 2, 8 << 16 | 6),
+        ] {
             assert_eq!(Ground::of_answer(finding), None);
         }
     }
@@ -313,7 +332,7 @@ mod tests {
             let ground = Ground::of_answer(answer(number, list, place)).unwrap();
             !matches!(ground, Ground::Unknown { .. })
         };
-        for number in [1, 2, 4, 5, 8, 9, 10, 11, 12] {
+        for number in [1, 2, 4, 5, 8, 9, 10, 11, 12, 13] {
             assert!(known(number, 0, 0));
             assert!(!known(number, 0, 1) && !known(number, 1, 0));
         }
@@ -323,7 +342,7 @@ mod tests {
         }
         assert!(known(6, 1, 0) && known(6, 2, 9));
         assert!(!known(6, 0, 9) && !known(6, 3, 9));
-        assert!(!known(13, 0, 0) && !known(255, 0, 0));
+        assert!(!known(14, 0, 0) && !known(255, 0, 0));
     }
 
     #[test]
@@ -345,8 +364,12 @@ mod tests {
         );
         assert_eq!(said(7, 0, 5), "ground 7: a bad pattern line, at offset 5");
         assert_eq!(
-            said(13, 4, 5),
-            "ground 13: unknown here, with list 4 and place 5"
+            said(13, 0, 0),
+            "ground 13: a width outside 0 to 1000, or not a number"
+        );
+        assert_eq!(
+            said(14, 4, 5),
+            "ground 14: unknown here, with list 4 and place 5"
         );
     }
 

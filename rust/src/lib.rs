@@ -7,7 +7,7 @@
 //! hyphenates over a wrong table unawares.
 //!
 //! ```
-//! use tteolmigu::{Exceptions, Ground, Margins, Table, PACK_ROOM};
+//! use tteolmigu::{Exceptions, Fit, Gauge, Ground, Margins, Table, PACK_ROOM, WIDTHS};
 //!
 //! // Pack a list. The table lies at the beginning of the room.
 //! let patterns = b"he2n\nhena4\nhen5at\nhy3ph\n2io\n1na\nn2at\no2n\n1tio\n";
@@ -38,6 +38,12 @@
 //! written += &word[from..];
 //! assert_eq!(written, "hy-phen-ation");
 //!
+//! // Find the last break that fits a line of 15 mm, where a hyphen is 1 mm wide
+//! // and each letter 2 mm.
+//! let gauge = Gauge { hyphen: 1.0, line: 15.0 };
+//! let widths = [2.0; WIDTHS];
+//! assert_eq!(gauge.fit(&widths, word.as_bytes(), breaks)?, Fit::Break(6));
+//!
 //! // Look at a refusal: its ground and place, its number, its words.
 //! let ground = table.hyphenate(margins, b"a1", lists).unwrap_err();
 //! assert_eq!(ground, Ground::NotLetter { place: 1 });
@@ -54,7 +60,7 @@
 //!
 //! The crate needs `core` alone and asks for no memory. The limits at its root
 //! have the names that the header has. Over bytes that nobody checked there are
-//! the calls of [`any`], and [`raw`] has all five with the answers' 64 bits as
+//! the calls of [`any`], and [`raw`] has all six with the answers' 64 bits as
 //! they come.
 //!
 //! With the feature `std`, which isn't on by default, [`Ground`] is a
@@ -72,6 +78,7 @@ mod answer;
 pub mod any;
 mod breaks;
 mod exceptions;
+mod gauge;
 mod ground;
 mod levels;
 mod limits;
@@ -81,6 +88,7 @@ mod table;
 
 pub use breaks::{Breaks, Positions};
 pub use exceptions::{Exceptions, Line, List};
+pub use gauge::{Fit, Gauge};
 pub use ground::Ground;
 pub use levels::Levels;
 pub use limits::*;

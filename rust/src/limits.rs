@@ -15,7 +15,7 @@ pub const VERSION_MAJOR: u32 = 1;
 /// ```
 /// assert!(tteolmigu::VERSION_MINOR < 1_000);
 /// ```
-pub const VERSION_MINOR: u32 = 1;
+pub const VERSION_MINOR: u32 = 2;
 
 /// The third number of the version.
 ///
@@ -100,6 +100,37 @@ pub const MARGIN_LIMIT: u64 = 63;
 /// assert_eq!(LOOK_LIMIT as usize, PATTERN_LIMIT * (WORD_LIMIT + 2));
 /// ```
 pub const LOOK_LIMIT: u32 = 1_040;
+
+/// How many letter widths there are: one for each letter, a to z.
+///
+/// ```
+/// assert_eq!(tteolmigu::WIDTHS, (b'a'..=b'z').count());
+/// ```
+pub const WIDTHS: usize = 26;
+
+/// The least width, in millimetres.
+///
+/// ```
+/// use tteolmigu::{raw, Ground, WIDTHS, WIDTH_LEAST};
+///
+/// let judge = |width| Ground::of_answer(raw::fit(0.0, width, &[1.0; WIDTHS], b"on", &[0; 64]));
+/// assert_eq!(judge(WIDTH_LEAST), None);
+/// assert_eq!(judge(-WIDTH_LEAST), None); // -0.0 is 0
+/// assert_eq!(judge(WIDTH_LEAST - f64::MIN_POSITIVE), Some(Ground::BadWidth));
+/// ```
+pub const WIDTH_LEAST: f64 = 0.0;
+
+/// The greatest width, in millimetres.
+///
+/// ```
+/// use tteolmigu::{raw, Ground, WIDTHS, WIDTH_LIMIT};
+///
+/// let judge = |width| Ground::of_answer(raw::fit(0.0, width, &[1.0; WIDTHS], b"on", &[0; 64]));
+/// assert_eq!(judge(WIDTH_LIMIT), None);
+/// let above = f64::from_bits(WIDTH_LIMIT.to_bits() + 1);
+/// assert_eq!(judge(above), Some(Ground::BadWidth));
+/// ```
+pub const WIDTH_LIMIT: f64 = 1_000.0;
 
 /// The most bytes of a pattern list.
 ///
@@ -304,13 +335,14 @@ pub(crate) mod tests {
     /// The header, as a C program reads it.
     pub(crate) const HEADER: &str = include_str!("../../include/tteolmigu.h");
 
-    /// Each constant here with its name.
+    /// Each constant here with its name. They are all far below 2^53, so that as
+    /// doubles they are what they are.
     macro_rules! named {
-        ($($name:ident)*) => { BTreeMap::from([$((stringify!($name), $name as u64)),*]) };
+        ($($name:ident)*) => { BTreeMap::from([$((stringify!($name), $name as f64)),*]) };
     }
 
     /// The value of a number, a name, or a sum of products of these.
-    fn value(text: &str, names: &BTreeMap<&str, u64>) -> u64 {
+    fn value(text: &str, names: &BTreeMap<&str, f64>) -> f64 {
         let one = |text: &str| match text.trim().strip_prefix("TTEOLMIGU_") {
             Some(name) => names[name],
             None => text.trim().trim_end_matches('u').parse().expect(text),
@@ -318,12 +350,12 @@ pub(crate) mod tests {
         let text = text.trim_start_matches('(').trim_end_matches(')');
         let products = text
             .split('+')
-            .map(|text| text.split('*').map(one).product::<u64>());
+            .map(|text| text.split('*').map(one).product::<f64>());
         products.sum()
     }
 
     /// Each constant that the header defines.
-    fn header() -> BTreeMap<&'static str, u64> {
+    fn header() -> BTreeMap<&'static str, f64> {
         let mut names = BTreeMap::new();
         for line in HEADER.lines() {
             let line = line.split("/*").next().unwrap_or("");
@@ -340,7 +372,7 @@ pub(crate) mod tests {
     fn the_constants_are_the_headers() {
         let ours = named!(
             VERSION_MAJOR VERSION_MINOR VERSION_PATCH VERSION ROOM PACK_ROOM WORD_LIMIT MARGIN_LEAST
-            MARGIN_LIMIT LOOK_LIMIT PATTERN_TEXT PATTERN_LIMIT LEVEL_LIMIT EXCEPTION_TEXT
+            MARGIN_LIMIT LOOK_LIMIT WIDTHS WIDTH_LEAST WIDTH_LIMIT PATTERN_TEXT PATTERN_LIMIT LEVEL_LIMIT EXCEPTION_TEXT
             EXCEPTION_LIMIT CUSTOMER_LIST HOUSE_LIST EDITION HEAD_SIZE CELL_SIZE ENTRY_SIZE
             CELL_LIMIT ENTRY_LIMIT TABLE_LEAST TABLE_LIMIT STACK PACK_STACK
         );

@@ -1,9 +1,9 @@
-//! The five calls as the C interface answers them: one number of 64 bits,
+//! The six calls as the C interface answers them: one number of 64 bits,
 //! not yet taken apart.
 //!
 //! They are safe to use, because every pointer and length comes from a slice.
-//! Any bytes may be lent as texts and tables, any numbers as margins, and rooms
-//! of any size. `include/tteolmigu.h` says what the bits are and what each call
+//! Any bytes may be lent as texts and tables, any numbers as margins and
+//! widths, and rooms of any size. `include/tteolmigu.h` says what the bits are and what each call
 //! leaves in its room; [`Ground::of_answer`](crate::Ground::of_answer) reads a
 //! refusal. Most programs want [`Table`](crate::Table) instead; these are for
 //! rooms that somebody else lends, and for tests that compare each bit.
@@ -11,6 +11,8 @@
 //! This is the only module with `unsafe` in it.
 
 #![allow(unsafe_code)]
+
+use crate::WIDTHS;
 
 mod c {
     extern "C" {
@@ -59,6 +61,16 @@ mod c {
             customer_length: usize,
             house: *const u8,
             house_length: usize,
+        ) -> u64;
+
+        pub fn tteolmigu_fit(
+            hyphen: f64,
+            line: f64,
+            widths: *const f64,
+            word: *const u8,
+            word_length: usize,
+            room: *const u8,
+            room_length: usize,
         ) -> u64;
     }
 }
@@ -196,6 +208,39 @@ pub fn lookup(word: &[u8], customer: &[u8], house: &[u8]) -> u64 {
             customer.len(),
             house.as_ptr(),
             house.len(),
+        )
+    }
+}
+
+/// Finds which break of a word fits a line: the whole word, else the last break
+/// in `room` that fits with its hyphen, else none. `widths` are those of a to z.
+/// Of the room the bytes 1 to n - 1 are read for a word of n letters, and any
+/// but 0 is a break; nothing is written. Grounds 5, 2, 4, 3 and 13, in this
+/// order.
+///
+/// ```
+/// use tteolmigu::raw;
+///
+/// let mut room = [0; 64];
+/// room[2] = 1; // na-tion
+/// let widths = [1.5; 26];
+/// assert_eq!(raw::fit(1.0, 9.0, &widths, b"nation", &room), 1 << 32); // whole
+/// assert_eq!(raw::fit(1.0, 8.5, &widths, b"nation", &room), 2 << 32 | 2); // "na-"
+/// assert_eq!(raw::fit(1.0, 3.5, &widths, b"nation", &room), 3 << 32); // none
+/// assert_eq!(raw::fit(1.0, -1.0, &widths, b"nation", &room), 13 << 56);
+/// ```
+pub fn fit(hyphen: f64, line: f64, widths: &[f64; WIDTHS], word: &[u8], room: &[u8]) -> u64 {
+    // Safety: as in `hyphenate`, and the library reads just so many widths;
+    // nothing at all is written.
+    unsafe {
+        c::tteolmigu_fit(
+            hyphen,
+            line,
+            widths.as_ptr(),
+            word.as_ptr(),
+            word.len(),
+            room.as_ptr(),
+            room.len(),
         )
     }
 }

@@ -1,14 +1,14 @@
 -- What an order of grounds comes to, whatever the call.
 use Prim.Native.Nat.{ℕ, zero, suc, _<_}
 use mathlib.Core.Bool.{Bool, true, false, cond, _||_, or-true}
-use mathlib.Core.List.{List, [], _∷_}
+use mathlib.Core.List.{List, [], _∷_, _++_}
 use mathlib.Core.Logic.{_↔_}
-use mathlib.Core.Path.{_≡_, refl, sym, ap}
+use mathlib.Core.Path.{_≡_, refl, sym, _∙_, ap}
 use native.Mathlib.Omega.{arith}
-use borrow.Author.Tests.{eq-eqb}
+use borrow.Author.Tests.{eq-eqb, eqb-false}
 use lib.Dec.{eqb}
 use lib.ListN.{length, getD}
-use Rattle.base.specs.Grounds.{Told, Said, Finds, Refuses, Row, on, firstOf, numbersOf, isFinding, anyHolds, oneOf}
+use Rattle.base.specs.Grounds.{Told, plain, Said, Finds, Refuses, Row, on, firstOf, numbersOf, isFinding, anyHolds, oneOf}
 use Rattle.base.proofs.Lists.{never}
 use Rattle.base.proofs.Grounds.{no-refusal, refuses-once}
 
@@ -31,6 +31,18 @@ found-none (row ∷ rows) values found e = go (row .holds) e (found-none rows va
     go : (z : Bool) → cond z (Refuses (row .tells)) (firstOf (Finds values) rows) ≡ Finds found → (firstOf (Finds values) rows ≡ Finds found → anyHolds rows ≡ false) → (z || anyHolds rows) ≡ false
     go true p next = no-refusal (sym p)
     go false p next = next p
+
+-- ... and then tells just these values
+values-of : Said → List ℕ
+values-of (Finds values) = values
+values-of (Refuses t) = []
+
+pub finds-exactly : (rows : List Row) (values found : List ℕ) → (firstOf (Finds values) rows ≡ Finds found) ↔ ((anyHolds rows ≡ false) × (values ≡ found))
+unfolding values-of
+finds-exactly rows values found = (
+  λ e. let none = found-none rows values found e in (none, ap values-of (sym (none-found rows values none) ∙ e)),
+  λ p. none-found rows values (p .0) ∙ ap Finds (p .1),
+)
 
 -- where one holds, it is a refusal
 pub some-refused : (rows : List Row) (values : List ℕ) → anyHolds rows ≡ true → (t : Told) × (firstOf (Finds values) rows ≡ Refuses t)
@@ -82,3 +94,18 @@ chosen-listed (row ∷ rows) n (suc at) h e = rw (chosen-listed rows n at (omega
 
 pub refuses-listed : (rows : List Row) (values : List ℕ) {t : Told} → firstOf (Finds values) rows ≡ Refuses t → oneOf (t .number) (numbersOf rows) ≡ true
 refuses-listed rows values {t} e = let c = refuses-first rows values e in chosen-listed rows (t .number) (c .at) (c .within) (ap (λ (s : Told). s .number) (c .tells))
+
+-- The last ground of an order, one that tells no place: refused on exactly where it holds and none before it does.
+pub last-exactly : (rows : List Row) (n : ℕ) (test : Bool) (values : List ℕ) → oneOf n (numbersOf rows) ≡ false
+    → (firstOf (Finds values) (rows ++ (on n test ∷ [])) ≡ Refuses (plain n)) ↔ ((anyHolds rows ≡ false) × (test ≡ true))
+unfolding firstOf anyHolds oneOf
+last-exactly [] n true values e = (λ p. (refl, refl), λ p. refl)
+last-exactly [] n false values e = (λ p. no-refusal p, λ p. never (p .1))
+last-exactly (row ∷ rows) n test values e = go (row .holds) (eqb n (row .tells .number)) refl e (last-exactly rows n test values)
+  where
+    go : (z other : Bool) → eqb n (row .tells .number) ≡ other → (other || oneOf n (numbersOf rows)) ≡ false
+        → (oneOf n (numbersOf rows) ≡ false → (firstOf (Finds values) (rows ++ (on n test ∷ [])) ≡ Refuses (plain n)) ↔ ((anyHolds rows ≡ false) × (test ≡ true)))
+        → (cond z (Refuses (row .tells)) (firstOf (Finds values) (rows ++ (on n test ∷ []))) ≡ Refuses (plain n)) ↔ (((z || anyHolds rows) ≡ false) × (test ≡ true))
+    go z true q f next = never (sym f)
+    go true false q f next = (λ p. absurd (eqb-false n (row .tells .number) q (sym (ap (λ (t : Told). t .number) (refuses-once p)))), λ p. never (sym (p .0)))
+    go false false q f next = next f

@@ -6,7 +6,7 @@ use lib.Dec.{eqb}
 use Rattle.base.specs.declared.Check.{Check}
 use Rattle.base.specs.declared.Check.the-variants.{Fine, Refused}
 use Rattle.base.specs.declared.Ground.{Ground}
-use Rattle.base.specs.declared.Ground.the-variants.{Margin, WordEmpty, NotLetter, WordLong, RoomShort, BadException, BadPattern, TextLong, TableForm, PackRoomShort, NoFit, NotRight}
+use Rattle.base.specs.declared.Ground.the-variants.{Margin, WordEmpty, NotLetter, WordLong, RoomShort, BadException, BadPattern, TextLong, TableForm, PackRoomShort, NoFit, NotRight, BadWidth}
 
 -- What the customer reads of a ground: its number, and the list and place told, 0 where none is.
 pub record Told : Type 0 where
@@ -22,7 +22,8 @@ plain n = record { number = n; list = 0; place = 0 }
 abbrev pub placed : ℕ → ℕ → Told
 placed n at = record { number = n; list = 0; place = at }
 
--- The table of "When the desk says no", row by row.
+-- The table of "When the desk says no", row by row; then document 02's: "A given width outside 0 to 1,000, or not-a-number, is refusal 13",
+-- and "a new number tells no place unless one is named".
 abbrev pub told : Ground → Told
 told Margin = plain 1
 told WordEmpty = plain 2
@@ -36,6 +37,7 @@ told TableForm = plain 9
 told PackRoomShort = plain 10
 told NoFit = plain 11
 told NotRight = plain 12
+told BadWidth = plain 13
 
 -- An answer as the customer reads it: "either a finding or a refusal that carries its ground and place". A finding tells its
 -- values in order.

@@ -1,4 +1,4 @@
--- Every limit of document 01 and the size of its alphabet, each named once, with the words that set it.
+-- Every limit of documents 01 and 02 and the size of the alphabet, each named once, with the words that set it.
 -- src/lib.rt has the same numbers for the code; a promise that uses both fails to prove where they differ.
 use Prim.Native.Nat.{ℕ}
 
@@ -51,6 +51,10 @@ entryLimit = 2048
 -- Ground 10: "pack room under 59,398 bytes", the length of the longest table.
 abbrev pub packRoom : ℕ
 packRoom = 59398
+
+-- CR 2: "with 26 letter widths beside it".
+abbrev pub widthCount : ℕ
+widthCount = 26
 
 -- Ground 6: "list (1 customer, 2 house)".
 abbrev pub customerList : ℕ

@@ -1,4 +1,4 @@
--- "Order": in which order each call asks its grounds, as document 01 writes it. Where a number stands twice, it is asked of the
+-- "Order": in which order each call asks its grounds, as documents 01 and 02 write it. Where a number stands twice, it is asked of the
 -- customer's list and then of the house's.
 use Prim.Native.Nat.{ℕ}
 use mathlib.Core.List.{List, [], _∷_}
@@ -22,3 +22,7 @@ checkOrder = 8 ∷ 7 ∷ 9 ∷ 12 ∷ []
 -- The lookup: "grounds 2, 4, 3, 8 or 6, which the hyphenating call names".
 abbrev pub lookupOrder : List ℕ
 lookupOrder = 2 ∷ 4 ∷ 3 ∷ 8 ∷ 8 ∷ 6 ∷ 6 ∷ []
+
+-- CR 2: "refusal 13, after 5, 2, 4, 3"
+abbrev pub fitOrder : List ℕ
+fitOrder = 5 ∷ 2 ∷ 4 ∷ 3 ∷ 13 ∷ []

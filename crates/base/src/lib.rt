@@ -29,6 +29,8 @@ pub const ENTRY_LIMIT: usize = 2048;
 
 pub const PACK_ROOM: usize = 59398;
 
+pub const WIDTH_COUNT: usize = 26;
+
 // The numbers of the two exception lists.
 pub const CUSTOMER_LIST: usize = 1;
 
@@ -48,6 +50,7 @@ pub enum Ground {
     PackRoomShort,
     NoFit,
     NotRight,
+    BadWidth,
 }
 
 // What a judgement says: nothing against it, or why not.
@@ -73,6 +76,7 @@ pub fn number_of(ground: Ground) -> usize
         Ground::PackRoomShort => 10,
         Ground::NoFit => 11,
         Ground::NotRight => 12,
+        Ground::BadWidth => 13,
     }
 }
 
@@ -93,6 +97,7 @@ pub fn list_of(ground: Ground) -> usize
         Ground::PackRoomShort => 0,
         Ground::NoFit => 0,
         Ground::NotRight => 0,
+        Ground::BadWidth => 0,
     }
 }
 
@@ -113,5 +118,6 @@ pub fn place_of(ground: Ground) -> usize
         Ground::PackRoomShort => 0,
         Ground::NoFit => 0,
         Ground::NotRight => 0,
+        Ground::BadWidth => 0,
     }
 }

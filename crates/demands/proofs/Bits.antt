@@ -1,19 +1,20 @@
 -- The C interface loses nothing: what the header's accessors read of a returned number is what the call answers.
-use Prim.Native.Nat.{ℕ, _+_, _*_, _-_, _≤_, _<_}
+use Prim.Native.Nat.{ℕ, zero, suc, _+_, _*_, _-_, _≤_, _<_}
 use mathlib.Core.Bool.{Bool, true, false, cond, not, _&&_, _||_}
 use mathlib.Core.List.{List, [], _∷_}
 use mathlib.Core.Path.{_≡_, refl, sym, _∙_}
 use native.Mathlib.Omega.{arith}
 use borrow.Author.Tests.{ltb-false, leb-true, eqb-true, not-false}
 use lib.Dec.{ltb, leb, eqb}
+use lib.Ieee.{Float}
 use lib.ListN.{length, getD}
 use Rattle.base.specs.Limits.{wordLimit, roomSize, patternLimit, patternText, exceptionText, customerList, houseList, cellLimit, entryLimit, packRoom}
-use Rattle.base.specs.Grounds.{told, first, refuseIf}
+use Rattle.base.specs.Grounds.{told, Said, Finds, Refuses, first, refuseIf, firstOf}
 use Rattle.base.specs.declared.Check.{Check}
 use Rattle.base.specs.declared.Check.the-variants.{Fine, Refused}
 use Rattle.base.specs.declared.Ground.{Ground}
-use Rattle.base.specs.declared.Ground.the-variants.{Margin, WordEmpty, NotLetter, WordLong, RoomShort, BadException, BadPattern, TextLong, TableForm, PackRoomShort, NoFit, NotRight}
-use Rattle.base.proofs.Grounds.{both-fine, not-refused}
+use Rattle.base.specs.declared.Ground.the-variants.{Margin, WordEmpty, NotLetter, WordLong, RoomShort, BadException, BadPattern, TextLong, TableForm, PackRoomShort, NoFit, NotRight, BadWidth}
+use Rattle.base.proofs.Grounds.{Ordered, both-fine, not-refused, said-found, said-refused}
 use Rattle.base.proofs.Lists.{clash, both}
 use Rattle.rooms.specs.Rooms.{isShort, sheet, nonzero}
 use Rattle.rooms.proofs.Sheets.{sheet-length}
@@ -44,11 +45,17 @@ use Rattle.words.proofs.Laws.{word-fits}
 use Rattle.hyphenation.proofs.Calls.{levels-sizes, breaks-sizes}
 use Rattle.hyphenation.proofs.Theorems.{word-few, breaks-few}
 use Rattle.fit.specs.Table.{Fit, NoRoom, Packed, firstFit}
+use Rattle.gauge.specs.Widths.{anyBad}
+use Rattle.gauge.specs.Fit.{wholeFound, breakFits, wholeFits, lastOf, breakOrNone, fitValues, given, fitGrounds, fitAnswer, judgeFit}
+use Rattle.gauge.specs.declared.Gauge.{Gauge}
+use Rattle.gauge.proofs.Laws.{fit-judged}
+use Rattle.gauge.proofs.Order.{fit-ordered}
+use Rattle.gauge.proofs.Theorems.{last-at-most}
 use Rattle.packer.specs.declared.Packing.{Packing}
 use Rattle.packer.specs.declared.Packing.the-variants as packings
 use Rattle.packer.specs.Pack.{judgePack, packing, packAnswer}
-use Rattle.tteolmigu.specs.Bits.{refusalBits, lineBits, answerBits, packingBits, checkBits, locatedBits, numberIn, listIn, placeIn, marksIn, looksIn, sizeIn, offsetIn, lengthIn}
-use Rattle.tteolmigu.proofs.Read.{told-number, told-list, told-place, found-number, found-marks, found-looks, size-number, size-size, line-number, line-list, line-offset, line-length}
+use Rattle.tteolmigu.specs.Bits.{refusalBits, lineBits, answerBits, packingBits, checkBits, locatedBits, fitBits, numberIn, listIn, placeIn, marksIn, looksIn, sizeIn, offsetIn, lengthIn, outcomeIn, gapIn}
+use Rattle.tteolmigu.proofs.Read.{told-number, told-list, told-place, found-number, found-marks, found-looks, size-number, size-size, line-number, line-list, line-offset, line-length, fitting-number, fitting-outcome, fitting-gap}
 use Rattle.demands.proofs.Packed.{judged-patterns, fit-accepted}
 
 -- What is read of a refusal's bits.
@@ -79,6 +86,7 @@ number-small TableForm = omega arith
 number-small PackRoomShort = omega arith
 number-small NoFit = omega arith
 number-small NotRight = omega arith
+number-small BadWidth = omega arith
 
 reads-refusal : (g : Ground) → Small g → ReadsRefusal g (refusalBits g)
 reads-refusal g s =
@@ -346,3 +354,38 @@ lookup-bits word customer house = go (judgeLookup word customer house) refl (loc
         reads-line houseList start end (omega arith) (omega (arith, w .ends, lists-short word customer house j .1)) (w .starts)
     go (Refused g) j (Customer start end) l = absurd (nowhere-customer (sym (locate-refused word customer house (sym j) refl ∙ l)))
     go (Refused g) j (House start end) l = absurd (nowhere-house (sym (locate-refused word customer house (sym j) refl ∙ l)))
+
+-- The fitting call's bits say what it answers: what came out and the gap, or the refusal.
+pub ReadsFit : Said → ℕ → Type 0
+ReadsFit (Finds values) bits = (numberIn bits ≡ 0) × (outcomeIn bits ≡ getD values 0 0) × (gapIn bits ≡ getD values 1 0)
+ReadsFit (Refuses t) bits = (numberIn bits ≡ t .number) × (listIn bits ≡ t .list) × (placeIn bits ≡ t .place)
+
+fit-small : (g : Gauge) (widths : List Float) (word : List ℕ) (size : ℕ) → SmallCheck (judgeFit g widths word size)
+unfolding judgeFit
+fit-small g widths word size =
+    small-first (refuseIf (ltb size roomSize) RoomShort) _ (small-if (ltb size roomSize) RoomShort (plain RoomShort refl refl))
+    (small-first (judgeWord wordLimit word) _ (word-small word)
+    (small-if (anyBad (given g widths)) BadWidth (plain BadWidth refl refl)))
+
+-- a finding's two numbers fit: the gap isn't past the last
+values-small : (z : Bool) (k : ℕ) → k < 4294967296 → ReadsFit (Finds (cond z wholeFound (breakOrNone k))) (fitBits (Finds (cond z wholeFound (breakOrNone k))))
+unfolding ReadsFit
+values-small true k h = (fitting-number 1 0 (omega arith) (omega arith), fitting-outcome 1 0 (omega arith) (omega arith), fitting-gap 1 0 (omega arith) (omega arith))
+values-small false zero h = (fitting-number 3 0 (omega arith) (omega arith), fitting-outcome 3 0 (omega arith) (omega arith), fitting-gap 3 0 (omega arith) (omega arith))
+values-small false (suc k) h = (fitting-number 2 (suc k) (omega arith) h, fitting-outcome 2 (suc k) (omega arith) h, fitting-gap 2 (suc k) (omega arith) h)
+
+pub fit-bits : (g : Gauge) (widths : List Float) (word room : List ℕ) → ReadsFit (fitAnswer g widths word room) (fitBits (fitAnswer g widths word room))
+unfolding fitAnswer SmallCheck fitValues ReadsFit
+fit-bits g widths word room = go (judgeFit g widths word (length room)) refl (fit-small g widths word (length room)) (fit-ordered g widths word (length room))
+  where
+    read : {said : Said} → firstOf (Finds (fitValues g widths word room)) (fitGrounds g widths word (length room)) ≡ said → ReadsFit said (fitBits said)
+        → ReadsFit (firstOf (Finds (fitValues g widths word room)) (fitGrounds g widths word (length room))) (fitBits (firstOf (Finds (fitValues g widths word room)) (fitGrounds g widths word (length room))))
+    read e r = rw e r
+
+    go : (c : Check) → judgeFit g widths word (length room) ≡ c → SmallCheck c → Ordered c (fitGrounds g widths word (length room))
+        → ReadsFit (firstOf (Finds (fitValues g widths word room)) (fitGrounds g widths word (length room))) (fitBits (firstOf (Finds (fitValues g widths word room)) (fitGrounds g widths word (length room))))
+    go Fine j s o =
+        let n = word-fits wordLimit word (fit-judged g widths word (length room) (sym j) refl .0) in
+        read (said-found o (fitValues g widths word room))
+        (values-small (wholeFits g widths word) (lastOf (breakFits g widths word room) (length word - 1)) (omega (arith, n, last-at-most (breakFits g widths word room) (length word - 1))))
+    go (Refused x) j s o = let r = reads-refusal x s in read (said-refused o (fitValues g widths word room)) (r .number, r .list, r .place)

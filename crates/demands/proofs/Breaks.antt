@@ -107,7 +107,7 @@ module _ (left right : ℕ) (word customer house table room after : List ℕ) (m
   found = finds left right word customer house table room after marks looks b
 
   -- a finding's word and lists are good
-  judged-parts : (judgeWord wordLimit word ≡ Fine) × (judgeLists customer house ≡ Fine)
+  pub judged-parts : (judgeWord wordLimit word ≡ Fine) × (judgeLists customer house ≡ Fine)
   unfolding judgeHyphenate
   judged-parts =
       let a = both-fine (judgeMargins left right) _ (found .judged) in
@@ -131,7 +131,7 @@ module _ (left right : ℕ) (word customer house table room after : List ℕ) (m
       none Nothing g n p = rw p
 
   -- "byte i of the room is 1 if gap i is a break, the other bytes up to 63 are 0", over any table
-  byte-is : (i : ℕ) → i < roomSize → getD after i 0 ≡ bit (isBreak left right customer house (levelAt (cellsOf table) (entriesOf table) rootBase word) word i)
+  pub byte-is : (i : ℕ) → i < roomSize → getD after i 0 ≡ bit (isBreak left right customer house (levelAt (cellsOf table) (entriesOf table) rootBase word) word i)
   unfolding breakSheet
   byte-is i k = rw (found .sheet) (written-low roomSize _ room i k)
 

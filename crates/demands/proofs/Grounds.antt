@@ -7,10 +7,11 @@ use mathlib.Core.List.{List, []}
 use mathlib.Core.Logic.{_↔_}
 use mathlib.Core.Path.{_≡_, refl, sym, _∙_, ap}
 use lib.Dec.{eqb}
+use lib.Ieee.{Float}
 use lib.ListN.{length}
 use Rattle.base.specs.Limits.{packRoom}
 use Rattle.base.specs.Grounds.{Told, Said, Finds, Refuses, says, Row, firstOf, numbersOf, isFinding, anyHolds, oneOf}
-use Rattle.base.specs.Orders.{hyphenateOrder, levelsOrder, packOrder, checkOrder, lookupOrder}
+use Rattle.base.specs.Orders.{hyphenateOrder, levelsOrder, packOrder, checkOrder, lookupOrder, fitOrder}
 use Rattle.base.specs.declared.Check.{Check}
 use Rattle.base.proofs.Order.{Chosen, finding-exactly, refuses-first, refuses-listed, none-found, some-refused}
 use Rattle.rooms.specs.Rooms.{filled}
@@ -26,6 +27,9 @@ use Rattle.hyphenation.specs.Calls.{roomGrounds, marginGrounds, levelsGrounds, 
 use Rattle.hyphenation.specs.declared.Answer.{Answer}
 use Rattle.packer.specs.Pack.{packGrounds, fitBytes, packingSaid, packSaid, packLeft, Packs}
 use Rattle.packer.specs.declared.Packing.{Packing}
+use Rattle.gauge.specs.Fit.{fitGrounds, fitSaid, fitAnswer}
+use Rattle.gauge.specs.declared.Gauge.{Gauge}
+use Rattle.gauge.specs.declared.Fitting.{Fitting}
 
 -- What demand 1 says of one answer of a call with this order of grounds.
 pub record Numbered (order : List ℕ) (grounds : List Row) (said : Said) : Type 0 where
@@ -112,3 +116,12 @@ lookup-refused word customer house e = ap valuesOf (some-refused (lookupGrounds 
 pub lookup-answered : (word customer house : List ℕ) → anyHolds (lookupGrounds word customer house) ≡ false → lookupSaid word customer house ≡ lineSaid (findEither word customer house)
 unfolding lookupSaid
 lookup-answered word customer house e = ap valuesOf (none-found (lookupGrounds word customer house) _ e)
+
+-- The fitting call of CR 2, which is lent no memory to write: "Demand 1 reads the numbers and orders of this and the later requests too".
+pub fit-order : (g : Gauge) (widths : List Float) (word : List ℕ) (size : ℕ) → numbersOf (fitGrounds g widths word size) ≡ fitOrder
+unfolding fitGrounds wordGrounds
+fit-order g widths word size = refl
+
+pub fit-numbered : (g : Gauge) (widths : List Float) (word room : List ℕ) (r : Fitting) → fitSaid r ≡ fitAnswer g widths word room → Numbered fitOrder (fitGrounds g widths word (length room)) (fitSaid r)
+unfolding fitAnswer
+fit-numbered g widths word room r p = numbered fitOrder _ _ (fitSaid r) (fit-order g widths word (length room)) p

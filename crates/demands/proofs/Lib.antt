@@ -3,6 +3,7 @@ pub mod Liang
 pub mod Accepted
 pub mod Hyphens
 pub mod Breaks
+pub mod Strip
 pub mod Walks
 pub mod Unreached
 pub mod Fitted

@@ -1,7 +1,10 @@
 // The figures of document 01 that are run and compared, judgements of words and lists and lookups, and those of CR 1, breaks by
-// exception lines. Each line of the output is a sample and what it is told: number, list and place, all 0 where nothing is refused;
-// the line that is shown for a word; or, behind word and margins, the number of breaks, the count and the gaps that break.
+// exception lines, and of CR 2, which break fits. Each line of the output is a sample and what it is told: number, list and place, all 0
+// where nothing is refused; the line that is shown for a word; behind word and margins the number of breaks, the count and the gaps that
+// break; or, behind a word and the line in words, what came out and the gap, a refusal as "?", number and place.
 use base::Check;
+use gauge::Fitting;
+use gauge::Gauge;
 use hyphenation::Answer;
 
 // "Empty list: C 1, E 0, 12 bytes": a table in which no walk finds anything.
@@ -86,6 +89,42 @@ fn breaks<'a>(left: usize, right: usize, sample: &[u8], customer: &'a [u8], hous
     io::write_all(1, b"\n");
 }
 
+fn told(first: usize, second: usize) {
+    io::write_all(1, b" ");
+    io::print_decimal(1, first as u64);
+    io::write_all(1, b" ");
+    io::print_decimal(1, second as u64);
+    io::write_all(1, b"\n");
+}
+
+fn show_fitting(fitting: Fitting) {
+    match fitting {
+        Fitting::Whole => told(gauge::WHOLE_OUTCOME, 0),
+        Fitting::Break(gap) => told(gauge::BREAK_OUTCOME, gap),
+        Fitting::Nowhere => told(gauge::NONE_OUTCOME, 0),
+        Fitting::Refused(g) => {
+            io::write_all(1, b" ?");
+            told(base::number_of(g), base::place_of(g));
+        }
+    }
+}
+
+// A word of which every gap is a break: "a" has its own width, all other letters another.
+fn fit(name: &[u8], hyphen: f64, line: f64, first: f64, other: f64, sample: &[u8]) {
+    let mut widths = [other; base::WIDTH_COUNT];
+    widths[0] = first;
+    let gauge = Gauge {
+        hyphen: hyphen,
+        line: line,
+    };
+    let room = [7u8; base::ROOM_SIZE];
+    io::write_all(1, sample);
+    io::write_all(1, b", ");
+    io::write_all(1, name);
+    io::write_all(1, b":");
+    show_fitting(gauge::fit_word(gauge, &widths, sample, &room));
+}
+
 fn some_words() {
     word(b"");
     word(b"a");
@@ -163,10 +202,68 @@ fn some_breaks() {
     breaks(2, 3, b"idler", b"", b"id-ler\n");
 }
 
+// 2^-53, half of the last place of 1.
+const HALF: f64 = 0.00000000000000011102230246251565;
+
+fn some_fits() {
+    fit(b"ten tenths in 1", 0.1, 1.0, 0.1, 0.1, b"aaaaaaaaaa");
+    fit(
+        b"ten tenths in the double below 1",
+        0.1,
+        0.9999999999999999,
+        0.1,
+        0.1,
+        b"aaaaaaaaaa",
+    );
+    fit(
+        b"ten tenths in the one below that",
+        0.1,
+        0.9999999999999998,
+        0.1,
+        0.1,
+        b"aaaaaaaaaa",
+    );
+    fit(b"three tenths in 0.3", 0.1, 0.3, 0.1, 0.1, b"aaa");
+    fit(
+        b"1 and halves of its last place in 1",
+        0.0,
+        1.0,
+        1.0,
+        HALF,
+        b"abbbb",
+    );
+    fit(b"the halves before the 1", 0.0, 1.0, 1.0, HALF, b"bba");
+    fit(
+        b"a hyphen of 1 behind halves in 1",
+        1.0,
+        1.0,
+        HALF,
+        1.0,
+        b"aab",
+    );
+    fit(b"a line of 0 for nothing", 0.0, 0.0, 0.0, 0.0, b"Ab");
+    fit(b"all widths 1000", 1000.0, 1000.0, 1000.0, 1000.0, b"ab");
+    fit(
+        b"the double above 1000",
+        1000.0,
+        1000.0,
+        1000.0,
+        1000.0000000000001,
+        b"a",
+    );
+    fit(b"the least number below 0", 0.0, 1.0, 0.0, -4.9e-324, b"a");
+    fit(b"-0.0", -0.0, -0.0, -0.0, -0.0, b"ab");
+    fit(b"not a number", 0.0, 1.0, 0.0, 0.0 / 0.0, b"a");
+    fit(b"a line without end", 0.0, 1.0 / 0.0, 0.0, 0.0, b"a");
+    fit(b"a bad line", 0.0, 1000.5, 0.0, 0.0, b"a");
+    fit(b"a bad byte before a bad width", -1.0, 1.0, 1.0, 1.0, b"a1");
+}
+
 fn main() {
     some_words();
     some_patterns();
     some_exceptions();
     some_lookups();
     some_breaks();
+    some_fits();
 }

@@ -2,7 +2,7 @@
 use Prim.Native.Nat.{ℕ, _-_, _<_}
 use mathlib.Core.Path.{_≡_}
 use native.Mathlib.Omega.{arith}
-use Rattle.tteolmigu.specs.Bits.{toldBits, foundBits, lineBits, bitsAt, numberIn, listIn, placeIn, marksIn, looksIn, sizeIn, offsetIn, lengthIn}
+use Rattle.tteolmigu.specs.Bits.{toldBits, foundBits, lineBits, fittingBits, bitsAt, numberIn, listIn, placeIn, marksIn, looksIn, sizeIn, offsetIn, lengthIn, outcomeIn, gapIn}
 
 module _ (number list place : ℕ) (n : number < 256) (l : list < 256) (p : place < 281474976710656) where
   pub told-number : numberIn (toldBits number list place) ≡ number
@@ -43,3 +43,13 @@ module _ (list start end : ℕ) (l : list < 256) (s : start < 4294967296) (e : e
 
   pub line-length : lengthIn (lineBits list start end) ≡ end - start
   line-length = omega arith
+
+module _ (outcome gap : ℕ) (o : outcome < 256) (g : gap < 4294967296) where
+  pub fitting-number : numberIn (fittingBits outcome gap) ≡ 0
+  fitting-number = omega arith
+
+  pub fitting-outcome : outcomeIn (fittingBits outcome gap) ≡ outcome
+  fitting-outcome = omega arith
+
+  pub fitting-gap : gapIn (fittingBits outcome gap) ≡ gap
+  fitting-gap = omega arith

@@ -1,7 +1,9 @@
 -- How an answer stands in the 64 bits that a C function returns. include/tteolmigu.h says the same to a reader of C.
 use Prim.Native.Nat.{ℕ, _+_, _*_, _-_, _/_, _%_, _^_}
+use lib.ListN.{getD}
+use lib.Ieee.{Float}
 use Rattle.base.specs.Limits.{customerList, houseList}
-use Rattle.base.specs.Grounds.{told}
+use Rattle.base.specs.Grounds.{told, Said, Finds, Refuses}
 use Rattle.base.specs.declared.Check.{Check}
 use Rattle.base.specs.declared.Check.the-variants as checks
 use Rattle.base.specs.declared.Ground.{Ground}
@@ -9,6 +11,7 @@ use Rattle.lookup.specs.declared.Located.{Located}
 use Rattle.lookup.specs.declared.Located.the-variants.{Customer, House, Nowhere}
 use Rattle.hyphenation.specs.declared.Answer.{Answer}
 use Rattle.hyphenation.specs.declared.Answer.the-variants as answers
+use Rattle.gauge.specs.declared.Gauge.{Gauge}
 use Rattle.packer.specs.declared.Packing.{Packing}
 use Rattle.packer.specs.declared.Packing.the-variants as packings
 
@@ -51,6 +54,18 @@ locatedBits (Customer start end) = lineBits customerList start end
 locatedBits (House start end) = lineBits houseList start end
 locatedBits Nowhere = 0
 
+-- A gauge as C gives it: the widths of a hyphen and of the line.
+abbrev pub gaugeOf : Float → Float → Gauge
+gaugeOf hyphen line = record { hyphen = hyphen; line = line }
+
+-- Fit: bits 32 to 39 what came out, bits 0 to 31 the gap.
+abbrev pub fittingBits : ℕ → ℕ → ℕ
+fittingBits outcome gap = bitsAt 32 8 outcome + bitsAt 0 32 gap
+
+abbrev pub fitBits : Said → ℕ
+fitBits (Finds values) = fittingBits (getD values 0 0) (getD values 1 0)
+fitBits (Refuses t) = toldBits (t .number) (t .list) (t .place)
+
 -- What the header's accessors read of a returned number.
 abbrev pub readBits : ℕ → ℕ → ℕ → ℕ
 readBits low width bits = bits / 2 ^ low % 2 ^ width
@@ -78,3 +93,9 @@ offsetIn bits = readBits 16 32 bits
 
 abbrev pub lengthIn : ℕ → ℕ
 lengthIn bits = readBits 0 16 bits
+
+abbrev pub outcomeIn : ℕ → ℕ
+outcomeIn bits = readBits 32 8 bits
+
+abbrev pub gapIn : ℕ → ℕ
+gapIn bits = readBits 0 32 bits

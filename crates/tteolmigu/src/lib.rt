@@ -1,6 +1,8 @@
-// The C interface: the five calls, each answer as one number of 64 bits. include/tteolmigu.h declares them.
+// The C interface: the six calls, each answer as one number of 64 bits. include/tteolmigu.h declares them.
 use base::Check;
 use base::Ground;
+use gauge::Fitting;
+use gauge::Gauge;
 use hyphenation::Answer;
 use lookup::Located;
 use packer::Packing;
@@ -11,7 +13,8 @@ ghost use Rattle.lookup.specs.Lookup.{locate};
 ghost use Rattle.rightness.specs.Test.{judgeCheck};
 ghost use Rattle.hyphenation.specs.Calls.{levelsAnswer, levelsRoom, breaksAnswer, breaksRoom};
 ghost use Rattle.packer.specs.Pack.{packAnswer, packLeaves};
-ghost use Rattle.tteolmigu.specs.Bits.{bitsAt, toldBits, refusalBits, foundBits, lineBits, answerBits, packingBits, checkBits, locatedBits};
+ghost use Rattle.gauge.specs.Fit.{fitSaid, fitAnswer};
+ghost use Rattle.tteolmigu.specs.Bits.{bitsAt, toldBits, refusalBits, foundBits, lineBits, answerBits, packingBits, checkBits, locatedBits, gaugeOf, fittingBits, fitBits};
 
 // The bits of a refusal's number, list and place.
 fn told_bits(number: usize, list: usize, place: usize) -> u64
@@ -106,6 +109,26 @@ fn located_bits(at: Located) -> u64
     }
 }
 
+// The bits of a finding of the fitting call.
+fn fitting_bits(outcome: usize, gap: usize) -> u64
+    ensures { λ r. ⌜ r ≡ fittingBits outcome gap ⌝ }
+{
+    let high = outcome as u64 % 256;
+    let low = gap as u64 % 4294967296;
+    high * 4294967296 + low
+}
+
+fn fit_bits(fitting: Fitting) -> u64
+    ensures { λ r. ⌜ r ≡ fitBits (fitSaid fitting) ⌝ }
+{
+    match fitting {
+        Fitting::Whole => fitting_bits(gauge::WHOLE_OUTCOME, 0),
+        Fitting::Break(gap) => fitting_bits(gauge::BREAK_OUTCOME, gap),
+        Fitting::Nowhere => fitting_bits(gauge::NONE_OUTCOME, 0),
+        Fitting::Refused(g) => refusal_bits(g),
+    }
+}
+
 // The hyphenating call.
 #[no_mangle]
 pub extern "C" fn tteolmigu_hyphenate<'a>(
@@ -163,4 +186,22 @@ pub extern "C" fn tteolmigu_lookup(word: &[u8], customer: &[u8], house: &[u8]) -
     ensures { λ r. ⌜ r ≡ locatedBits (locate (now (word .entry)) (now (customer .entry)) (now (house .entry))) ⌝ }
 {
     located_bits(lookup::locate_line(word, customer, house))
+}
+
+// The fitting call: which break of a word fits a line.
+#[no_mangle]
+pub extern "C" fn tteolmigu_fit(
+    hyphen: f64,
+    line: f64,
+    widths: &[f64; base::WIDTH_COUNT],
+    word: &[u8],
+    room: &[u8],
+) -> u64
+    ensures { λ r. ⌜ r ≡ fitBits (fitAnswer (gaugeOf hyphen line) (now (widths .entry)) (now (word .entry)) (now (room .entry))) ⌝ }
+{
+    let gauge = Gauge {
+        hyphen: hyphen,
+        line: line,
+    };
+    fit_bits(gauge::fit_word(gauge, widths, word, room))
 }

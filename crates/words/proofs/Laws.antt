@@ -4,7 +4,7 @@ use mathlib.Core.Bool.{Bool, true, false, cond, _&&_}
 use mathlib.Core.List.{List, [], _∷_, _++_}
 use mathlib.Core.Path.{_≡_, refl, sym, _∙_, ap}
 use native.Mathlib.Omega.{arith}
-use borrow.Author.Tests.{lt-leb, le-leb, lt-ltb, le-ltb, eq-eqb, ne-eqb, leb-true, ltb-false}
+use borrow.Author.Tests.{lt-leb, le-leb, lt-ltb, le-ltb, eq-eqb, ne-eqb, leb-true, ltb-false, eqb-false}
 use lib.Dec.{leb, ltb, eqb}
 use lib.ListN.{length, getD, drop, length-append, drop-of-length-le}
 use Rattle.base.specs.Limits.{edge}
@@ -116,11 +116,15 @@ letters-each at (b ∷ t) e i h = go (letter b) refl e (letters-each (at + 1) t)
     go true p q next (suc i) k = next q i (omega arith)
     go false p q next i k = clash cc
 
--- what a judged word is: short, and all letters
+-- what a judged word is: not empty, short, and all letters
 module _ (limit : ℕ) (w : List ℕ) (fine : judgeWord limit w ≡ Fine) where
   some-fine : first (refuseIf (ltb limit (length w)) WordLong) (allLetters 0 w) ≡ Fine
   unfolding judgeWord
   some-fine = both-fine (refuseIf (eqb (length w) 0) WordEmpty) _ fine .1
+
+  pub word-some : 0 < length w
+  unfolding judgeWord
+  word-some = let n = eqb-false (length w) 0 (not-refused (eqb (length w) 0) WordEmpty (both-fine (refuseIf (eqb (length w) 0) WordEmpty) _ fine .0)) in omega (arith, n)
 
   pub word-fits : length w ≤ limit
   word-fits = ltb-false limit (length w) (not-refused (ltb limit (length w)) WordLong (both-fine (refuseIf (ltb limit (length w)) WordLong) (allLetters 0 w) some-fine .0))

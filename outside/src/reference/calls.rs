@@ -1,5 +1,5 @@
-//! The five calls: grounds in their order, findings, and what is left in the
-//! room. Answers are the 64 bits that the C interface gives.
+//! The five calls on lists and tables: grounds in their order, findings, and
+//! what is left in the room. Answers are the 64 bits that the C interface gives.
 
 use super::fit::first_fit;
 use super::liang::{breaks, inside};
@@ -64,7 +64,7 @@ fn found(marks: usize, looks: u32) -> u64 {
 }
 
 /// Turns a refusal into its answer.
-fn settle(result: Result<u64, Refusal>) -> u64 {
+pub(super) fn settle(result: Result<u64, Refusal>) -> u64 {
     result.unwrap_or_else(|refusal| refusal.answer())
 }
 

@@ -1,18 +1,22 @@
-//! The rules of the scope document, written a second time and from its words
-//! alone.
+//! The rules of the scope document and of the change requests, written a
+//! second time and from their words alone.
 //!
 //! Nothing here is clever: lists are read into vectors, levels come from
 //! trying every pattern at every place, the checker lists the table's paths,
-//! and first fit tries one base after the other.
+//! first fit tries one base after the other, and the width of each beginning of
+//! a word is summed from its first letter on.
 
+pub mod binary64;
 pub mod calls;
 pub mod fit;
+pub mod gauge;
 pub mod liang;
 pub mod right;
 pub mod table;
 pub mod text;
 
 pub use calls::{check, hyphenate, levels, lookup, pack};
+pub use gauge::{fit_line, fit_line_by_integers, Gauge, WIDTHS, WIDTH_LIMIT};
 pub use text::{Exception, Pattern};
 
 /// The symbol of the word's edge.

@@ -2,6 +2,7 @@
 
 mod exceptions;
 mod figures;
+mod gauge;
 mod limits;
 mod patterns;
 mod real;
@@ -95,6 +96,8 @@ pub fn all(options: &Options) -> Vec<Test> {
     add("pack-small-lists", patterns::pack_small);
     add("circles", tables::circles);
     add("every-byte-of-nine", tables::every_byte_of_nine);
+    add("gauge-random", gauge::random);
+    add("gauge-edges", gauge::edges);
     add("limits-both", limits::both);
     add("limits-cells", limits::cells);
     add("limits-entries", limits::entries);
@@ -127,6 +130,13 @@ pub fn all(options: &Options) -> Vec<Test> {
     add("wrapper", rooms::wrapper);
     #[cfg(target_pointer_width = "64")]
     add("huge-lengths", rooms::huge_lengths);
+    add("gauge-bad-widths", gauge::bad_widths);
+    add("gauge-grounds", gauge::grounds);
+    add("gauge-bytes-and-sizes", gauge::bytes_and_sizes);
+    add("gauge-marks", gauge::marks);
+    add("gauge-figures", gauge::figures);
+    add("gauge-wrapper", gauge::wrapper);
+    add("gauge-additions", gauge::additions);
     add("word-bytes", words::all_bytes);
     add("word-lengths", words::all_lengths);
     add("words-bad", words::bad);

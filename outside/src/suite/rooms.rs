@@ -4,8 +4,10 @@ use super::{Packed, NINE};
 use crate::run::{demand, Run};
 use outside::fence::Place;
 use outside::lab::{Lab, Mismatch};
-use outside::make::{damage, exceptions, lists, words};
-use outside::reference::{self, EXCEPTION_TEXT_LIMIT, PACK_ROOM, PATTERN_TEXT_LIMIT};
+use outside::make::{damage, exceptions, gauges, lists, words};
+use outside::reference::{
+    self, Gauge, EXCEPTION_TEXT_LIMIT, PACK_ROOM, PATTERN_TEXT_LIMIT, WIDTHS,
+};
 use outside::rng::Rng;
 use tteolmigu::{any, Breaks, Exceptions, Ground, Levels, Line, List, Margins, Table};
 
@@ -80,6 +82,19 @@ fn any_word(rng: &mut Rng) -> Vec<u8> {
     }
 }
 
+/// Widths that are good, or of which one isn't.
+fn any_gauge(rng: &mut Rng) -> Gauge {
+    let mut gauge = gauges::gauge(rng);
+    if rng.once_in(3) {
+        gauges::put(
+            &mut gauge,
+            rng.below(gauges::PLACES),
+            gauges::bad_width(rng),
+        );
+    }
+    gauge
+}
+
 /// Many grounds at once: the answer shows which is judged first.
 pub fn refusal_order(run: &mut Run) -> Result<(), Mismatch> {
     let nine = Packed::of_text(b"a1b\nb2a\n");
@@ -96,6 +111,7 @@ pub fn refusal_order(run: &mut Run) -> Result<(), Mismatch> {
         lab.hyphenate(left, right, &word, &customer, &house, &table, size)?;
         lab.levels(&word, &table, size)?;
         lab.lookup(&word, &customer, &house)?;
+        lab.fit(&any_gauge(rng), &word, &[1; 100][..size])?;
         let patterns = any_patterns(rng);
         lab.check(&patterns, &table)?;
         if rng.once_in(4) {
@@ -129,6 +145,15 @@ pub fn fences(run: &mut Run) -> Result<(), Mismatch> {
                     lab.lookup(word, b"", &list[..length])?;
                     lab.hyphenate(1, 1, word, &list[..length], list, &nine.table, 64)?;
                 }
+            }
+            for length in 0..=64 {
+                let gauge = Gauge {
+                    hyphen: 0.5,
+                    line: 9.5,
+                    letters: [1.0; WIDTHS],
+                };
+                lab.fit(&gauge, &[b'z'; 64][..length], &[1; 64])?;
+                lab.fit(&gauge, b"hyphenation", &[1; 64][..length])?;
             }
             past_ends(lab)?;
         }
@@ -182,6 +207,8 @@ pub fn locked_inputs(run: &mut Run) -> Result<(), Mismatch> {
         lab.hyphenate(1, 1, &word, &customer, &house, &table, 64)?;
         lab.hyphenate(1, 1, b"hyphenation", b"", &house, &table, 64)?;
         lab.lookup(&word, &customer, &house)?;
+        lab.fit(&any_gauge(rng), &word, &[1; 64])?;
+        lab.fit(&gauges::gauge(rng), b"hyphenation", &[1; 64])?;
         Ok(())
     })
 }
@@ -289,6 +316,11 @@ pub fn huge_lengths(run: &mut Run) -> Result<(), Mismatch> {
             let answer = raw::hyphenate(2, 3, long, b"", b"", &nine.table, &mut room);
             try_one("word of the hyphenating call", 4, answer)?;
             try_one("word of the lookup", 0, raw::lookup(long, b"", b""))?;
+            let answer = raw::fit(0.0, 1.0, &[1.0; WIDTHS], long, &room);
+            try_one("word of the call on widths", 4, answer)?;
+            // A room so long is none too short, and what is refused comes later.
+            let answer = raw::fit(0.0, -1.0, &[1.0; WIDTHS], b"on", long);
+            try_one("room of the call on widths", 13, answer)?;
         }
         for more in [0, 12, 233] {
             let long = table.lend(over + more);

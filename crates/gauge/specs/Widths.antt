@@ -1,0 +1,38 @@
+-- Widths in millimetres: which are refused, how they are summed, and when a sum fits. A width is a 64-bit float, an IEEE 754
+-- binary64 number; `add binary64` is its addition, rounded once, to nearest, ties to even.
+use Prim.Native.Nat.{ℕ, zero, suc, _-_}
+use mathlib.Core.Bool.{Bool, false, not, _||_}
+use mathlib.Core.List.{List, [], _∷_}
+use lib.IntN.{pos}
+use lib.ListN.{getD}
+use lib.Ieee.{Float, fin, binary64, add, lt, isNan}
+use Rattle.words.specs.Symbols.{lower, symbolOf}
+
+-- "0 to 1,000": the ends, 0 and 125 times 2 to the power of 3.
+abbrev pub zeroWidth : Float
+zeroWidth = fin false 0 (pos 0)
+
+abbrev pub widthLimit : Float
+widthLimit = fin false 125 (pos 3)
+
+-- "A given width outside 0 to 1,000, or not-a-number". Both ends are widths, and -0.0 isn't below 0.
+unfoldable pub badWidth : Float → Bool
+badWidth x = lt x zeroWidth || (lt widthLimit x || isNan x)
+
+-- Is one of some widths refused?
+unfoldable pub anyBad : List Float → Bool
+anyBad [] = false
+anyBad (x ∷ rest) = badWidth x || anyBad rest
+
+-- The width of a word's letter: the one at its number in the alphabet, from 0. "capitals count as small".
+unfoldable pub letterWidth : List Float → ℕ → Float
+letterWidth widths b = getD widths (symbolOf (lower b) - 1) zeroWidth
+
+-- "A width is the sum from the left, starting at zero, each addition rounded once": that of a word's first i letters.
+unfoldable pub widthTo : List Float → List ℕ → ℕ → Float
+widthTo widths word zero = zeroWidth
+widthTo widths word (suc i) = add binary64 (widthTo widths word i) (letterWidth widths (getD word i 0))
+
+-- "it fits if it isn't above the line width"
+unfoldable pub fitsIn : Float → Float → Bool
+fitsIn line width = not (lt line width)
