@@ -23,11 +23,11 @@
  * trip) must change it back before it calls tteolmigu_fit. The archive adds with SSE2's addsd alone, so that nothing is kept wider than
  * a double and no two operations become one; tests/floats holds it to that.
  *
- * Stack. Pack takes at most TTEOLMIGU_PACK_STACK bytes and every other call at most TTEOLMIGU_STACK, whatever texts and tables hold;
- * as compiled today these are 18,764 bytes for pack, 616 for hyphenate, 376 for levels, 348 for check, 220 for lookup and at most 64
- * for fit. No function calls itself, so that a chain of 2,048 entries takes no more than a single entry. This isn't proved; tests/stack holds the archive to
- * it, with the longest chains and the fullest lists. Where a program's symbols are bound lazily, the loader takes stack of its own
- * besides, once, at the first memset or memcpy.
+ * Stack. Pack takes at most TTEOLMIGU_PACK_STACK bytes and every other call at most TTEOLMIGU_STACK, whatever texts and tables
+ * hold; as compiled today these are 18,764 bytes for pack, 616 for hyphenate, 376 for levels, 348 for check, 220 for lookup and at
+ * most 64 for fit. No function calls itself, so that a chain of 2,048 entries takes no more than a single entry. This isn't proved;
+ * tests/stack holds the archive to it, with the longest chains and the fullest lists. Where a program's symbols are bound lazily,
+ * the loader takes stack of its own besides, once, at the first memset or memcpy.
  *
  * Answers. Each call returns one number of 64 bits. Bits 56 to 63 are 0 for a finding, else the number of the ground on which the call
  * refuses. A refusal tells in bits 48 to 55 the exception list it speaks of (1 the customer's, 2 the house's, 0 none) and in bits 0 to

@@ -14,8 +14,7 @@ use Rattle.rooms.specs.Rooms.{sheetFrom, sheet, bit}
 use Rattle.words.specs.Symbols.{small, capital, letter, lower, symbolOf}
 use Rattle.words.specs.Words.{leading, wordGrounds}
 use Rattle.gauge.specs.Widths.{zeroWidth, widthLimit, badWidth, anyBad, letterWidth, widthTo, fitsIn}
-use Rattle.gauge.specs.Fit.{isMarked, wholeFits, hyphenFits, lastOf, fitValues, fitGrounds, fitAnswer}
-use Rattle.gauge.specs.declared.Gauge.{Gauge}
+use Rattle.gauge.specs.Fit.{gaugeOf, isMarked, wholeFits, hyphenFits, lastOf, fitValues, fitGrounds, fitAnswer}
 use Rattle.figures.specs.Samples.{bytes}
 use Rattle.figures.specs.Figures.{inNumbers, allOf}
 
@@ -38,8 +37,7 @@ roomOf gaps = sheet roomSize (λ i. bit (oneOf i gaps))
 -- What the call says of a word with these breaks: 0, what came out and the gap, or number, list and place.
 unfoldable pub fitCall : Float → Float → List Float → List ℕ → List ℕ → List ℕ
 fitCall hyphen line widths word gaps =
-    let g : Gauge = record { hyphen = hyphen; line = line } in
-    inNumbers (fitAnswer g widths word (roomOf gaps))
+    inNumbers (fitAnswer (gaugeOf hyphen line) widths word (roomOf gaps))
 
 -- What is said where the whole word fits, a break, and none.
 abbrev pub whole : List ℕ

@@ -127,31 +127,28 @@ getD-default (x ∷ w) zero h = refl
 getD-default (x ∷ w) (suc k) h = getD-default w k (omega arith)
 
 module _ (widths : List Float) (b : ℕ) (p : (length widths ≡ widthCount) × (letter b ≡ true)) {n : ℕ} (q : n ≡ symbolOf (lower b)) where
-  pub letter-first : 1 ≤ n
-  letter-first = omega (arith, letter-range b (p .1) .0)
-
-  pub letter-within : n - 1 < length widths
-  letter-within = omega (arith, p .0, letter-range b (p .1) .0, letter-range b (p .1) .1)
+  pub letter-number : (1 ≤ n) × (n ≤ widthCount)
+  letter-number = (omega (arith, letter-range b (p .1) .0), omega (arith, letter-range b (p .1) .1))
 
   pub letter-is : getD widths (n - 1) nan ≡ letterWidth widths b
   unfolding letterWidth
-  letter-is = getD-default widths (n - 1) letter-within ∙ rw q
+  letter-is = getD-default widths (n - 1) (omega (arith, p .0, letter-number .0, letter-number .1)) ∙ rw q
 
 pub fits-is : (line width : Float) → not (lt line width) ≡ fitsIn line width
 unfolding fitsIn
 fits-is line width = refl
 
 -- the last break so far, by the way the code goes
-module _ (g : Gauge) (width : Float) (mark i before : ℕ) where
-  pub break-unmarked : mark ≡ 0 → before ≡ cond (not (eqb mark 0) && fitsIn (g .line) (add binary64 width (g .hyphen))) i before
+module _ (mark : ℕ) (fits : Bool) (i before : ℕ) where
+  pub break-unmarked : mark ≡ 0 → before ≡ cond (not (eqb mark 0) && fits) i before
   break-unmarked e = rw (eq-eqb mark 0 e)
 
-  module _ (m : mark ≡ 0 → ⊥) {z : Bool} (p : z ≡ fitsIn (g .line) (add binary64 width (g .hyphen))) where
-    pub break-fits : z ≡ true → i ≡ cond (not (eqb mark 0) && fitsIn (g .line) (add binary64 width (g .hyphen))) i before
-    break-fits q = rw (ne-eqb mark 0 m, sym p ∙ q)
+  module _ (m : mark ≡ 0 → ⊥) where
+    pub break-fits : fits ≡ true → i ≡ cond (not (eqb mark 0) && fits) i before
+    break-fits e = rw (ne-eqb mark 0 m, e)
 
-    pub break-misfits : z ≡ false → before ≡ cond (not (eqb mark 0) && fitsIn (g .line) (add binary64 width (g .hyphen))) i before
-    break-misfits q = rw (ne-eqb mark 0 m, sym p ∙ q)
+    pub break-misfits : fits ≡ false → before ≡ cond (not (eqb mark 0) && fits) i before
+    break-misfits e = rw (ne-eqb mark 0 m, e)
 
 -- what a word that is measured is: judged, as are its room and the number of widths
 module _ (widths : List Float) (word room : List ℕ) (p : (length widths ≡ widthCount) × (judgeWord wordLimit word ≡ Fine) × (roomSize ≤ length room)) where
@@ -187,10 +184,10 @@ module _ (g : Gauge) (widths : List Float) (word room : List ℕ) where
     width-more = rw (add-one, m .sum, l)
 
     -- a letter and a gap more
-    pub measured-more : {r : ℕ} → r ≡ cond (not (eqb (getD room (i + 1) 0) 0) && fitsIn (g .line) (add binary64 (add binary64 width w) (g .hyphen))) (i + 1) found
+    pub measured-more : {z : Bool} → z ≡ fitsIn (g .line) (add binary64 (add binary64 width w) (g .hyphen)) → {r : ℕ} → r ≡ cond (not (eqb (getD room (i + 1) 0) 0) && z) (i + 1) found
         → Measured g widths word room (i + 1) (add binary64 width w) r
     unfolding lastOf isMarked hyphenFits
-    measured-more e = record { sum = width-more; last = e ∙ rw (width-more, m .last, add-one) }
+    measured-more f e = record { sum = width-more; last = e ∙ rw (f, width-more, m .last, add-one) }
 
     -- the last letter: the whole word, or its last break
     module _ (end : i + 1 ≡ length word) {z : Bool} (f : z ≡ fitsIn (g .line) (add binary64 width w)) where

@@ -15,6 +15,10 @@ use Rattle.gauge.specs.declared.Gauge.{Gauge}
 use Rattle.gauge.specs.declared.Fitting.{Fitting}
 use Rattle.gauge.specs.declared.Fitting.the-variants.{Whole, Break, Nowhere, Refused}
 
+-- "a gauge of hyphen width and line width"
+abbrev pub gaugeOf : Float → Float → Gauge
+gaugeOf hyphen line = record { hyphen = hyphen; line = line }
+
 -- "any but 0 is a break"
 unfoldable pub isMarked : List ℕ → ℕ → Bool
 isMarked room i = not (eqb (getD room i 0) 0)

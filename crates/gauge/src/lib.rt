@@ -7,7 +7,6 @@ ghost use mathlib.Core.List.{[], _∷_};
 ghost use Prim.Native.Nat.{_≤_};
 ghost use lib.Dec.{eqb};
 ghost use lib.ListN.{length};
-ghost use lib.Ieee.{add, binary64};
 ghost use Rattle.base.specs.Limits.{roomSize, wordLimit, widthCount};
 ghost use Rattle.base.specs.Grounds.{Finds, says, firstOf};
 ghost use Rattle.base.specs.declared.Check.{Check};
@@ -114,14 +113,14 @@ fn fits_in(line: f64, width: f64) -> bool
     !(line < width)
 }
 
-// The last break so far: gap i, where it is marked and its letters fit with the hyphen behind them, else the one before.
-fn last_break(gauge: Gauge, width: f64, mark: u8, i: usize, before: usize) -> usize
-    ensures { λ r. ⌜ r ≡ cond (not (eqb mark 0) && fitsIn (gauge .line) (add binary64 width (gauge .hyphen))) i before ⌝ }
+// The last break so far: gap i, where it is marked and fits, else the one before.
+fn last_break(mark: u8, fits: bool, i: usize, before: usize) -> usize
+    ensures { λ r. ⌜ r ≡ cond (not (eqb mark 0) && fits) i before ⌝ }
 {
     if mark == 0 {
         return before;
     }
-    if fits_in(gauge.line, width + gauge.hyphen) {
+    if fits {
         return i;
     }
     before
@@ -132,16 +131,19 @@ fn find_fit(gauge: Gauge, widths: &[f64], word: &[u8], room: &[u8]) -> Fitting
     requires { ⌜ (length (now widths) ≡ widthCount) × (judgeWord wordLimit (now word) ≡ Check.Fine) × (roomSize ≤ length (now room)) ⌝ }
     ensures { λ r. ⌜ fitSaid r ≡ Finds (fitValues gauge (now (widths .entry)) (now (word .entry)) (now (room .entry))) ⌝ }
 {
+    let hyphen = gauge.hyphen;
+    let line = gauge.line;
     let last = word.len() - 1;
     let mut width = ZERO_WIDTH;
     let mut found: usize = 0;
     let mut i: usize = 0;
     while i < last {
-        width = width + letter_width(widths, word[i]);
+        let at = i;
         i += 1;
-        found = last_break(gauge, width, room[i], i, found);
+        width = width + letter_width(widths, word[at]);
+        found = last_break(room[i], fits_in(line, width + hyphen), i, found);
     }
-    if fits_in(gauge.line, width + letter_width(widths, word[i])) {
+    if fits_in(line, width + letter_width(widths, word[i])) {
         return Fitting::Whole;
     }
     if found == 0 {

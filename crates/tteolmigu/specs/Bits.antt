@@ -1,7 +1,6 @@
 -- How an answer stands in the 64 bits that a C function returns. include/tteolmigu.h says the same to a reader of C.
 use Prim.Native.Nat.{ℕ, _+_, _*_, _-_, _/_, _%_, _^_}
 use lib.ListN.{getD}
-use lib.Ieee.{Float}
 use Rattle.base.specs.Limits.{customerList, houseList}
 use Rattle.base.specs.Grounds.{told, Said, Finds, Refuses}
 use Rattle.base.specs.declared.Check.{Check}
@@ -11,7 +10,6 @@ use Rattle.lookup.specs.declared.Located.{Located}
 use Rattle.lookup.specs.declared.Located.the-variants.{Customer, House, Nowhere}
 use Rattle.hyphenation.specs.declared.Answer.{Answer}
 use Rattle.hyphenation.specs.declared.Answer.the-variants as answers
-use Rattle.gauge.specs.declared.Gauge.{Gauge}
 use Rattle.packer.specs.declared.Packing.{Packing}
 use Rattle.packer.specs.declared.Packing.the-variants as packings
 
@@ -53,10 +51,6 @@ abbrev pub locatedBits : Located → ℕ
 locatedBits (Customer start end) = lineBits customerList start end
 locatedBits (House start end) = lineBits houseList start end
 locatedBits Nowhere = 0
-
--- A gauge as C gives it: the widths of a hyphen and of the line.
-abbrev pub gaugeOf : Float → Float → Gauge
-gaugeOf hyphen line = record { hyphen = hyphen; line = line }
 
 -- Fit: bits 32 to 39 what came out, bits 0 to 31 the gap.
 abbrev pub fittingBits : ℕ → ℕ → ℕ

@@ -13,8 +13,8 @@ ghost use Rattle.lookup.specs.Lookup.{locate};
 ghost use Rattle.rightness.specs.Test.{judgeCheck};
 ghost use Rattle.hyphenation.specs.Calls.{levelsAnswer, levelsRoom, breaksAnswer, breaksRoom};
 ghost use Rattle.packer.specs.Pack.{packAnswer, packLeaves};
-ghost use Rattle.gauge.specs.Fit.{fitSaid, fitAnswer};
-ghost use Rattle.tteolmigu.specs.Bits.{bitsAt, toldBits, refusalBits, foundBits, lineBits, answerBits, packingBits, checkBits, locatedBits, gaugeOf, fittingBits, fitBits};
+ghost use Rattle.gauge.specs.Fit.{gaugeOf, fitSaid, fitAnswer};
+ghost use Rattle.tteolmigu.specs.Bits.{bitsAt, toldBits, refusalBits, foundBits, lineBits, answerBits, packingBits, checkBits, locatedBits, fittingBits, fitBits};
 
 // The bits of a refusal's number, list and place.
 fn told_bits(number: usize, list: usize, place: usize) -> u64
