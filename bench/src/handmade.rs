@@ -44,6 +44,40 @@ fn read_word(word: &[u8]) -> Result<Row, u64> {
     })
 }
 
+/// Which break of a word fits a line.
+pub fn fit(hyphen: f64, line: f64, widths: &[f64; 26], word: &[u8], room: &[u8]) -> u64 {
+    if room.len() < 64 {
+        return refuse(5, 0, 0);
+    }
+    if word.is_empty() {
+        return refuse(2, 0, 0);
+    }
+    if word.len() > 63 {
+        return refuse(4, 0, 0);
+    }
+    let number = |byte: u8| (byte | 0x20).wrapping_sub(b'a') as usize;
+    if let Some(place) = word.iter().position(|&byte| number(byte) >= 26) {
+        return refuse(3, 0, place);
+    }
+    let is_width = |width: f64| (0.0..=1_000.0).contains(&width);
+    let letters_are = widths.iter().all(|&width| is_width(width));
+    if !(is_width(hyphen) && is_width(line) && letters_are) {
+        return refuse(13, 0, 0);
+    }
+    let (mut sum, mut last) = (0.0, 0);
+    for (gap, (&byte, &mark)) in word.iter().zip(room).enumerate() {
+        if gap != 0 && mark != 0 && sum + hyphen <= line {
+            last = gap as u64;
+        }
+        sum += widths[number(byte)];
+    }
+    match last {
+        _ if sum <= line => 1 << 32,
+        0 => 3 << 32,
+        _ => 2 << 32 | last,
+    }
+}
+
 /// A table whose head was judged.
 struct Table<'a> {
     cells: &'a [u8],

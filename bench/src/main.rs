@@ -13,9 +13,9 @@
 
 mod handmade;
 
-use outside::make::{damage, exceptions, lists, random, words};
+use outside::make::{damage, exceptions, gauges, lists, random, words};
 use outside::reference::text::{read_patterns, write_patterns};
-use outside::reference::{self, Pattern, PACK_ROOM};
+use outside::reference::{self, Gauge, Pattern, PACK_ROOM, WIDTHS};
 use outside::rng::Rng;
 use std::time::Instant;
 use tteolmigu::raw;
@@ -258,6 +258,68 @@ fn compare_word(rng: &mut Rng, letters: &[u8], list: &[Pattern], table: &[u8], r
     assert!(one == other && ours == theirs, "levels, round {}", round);
 }
 
+/// Widths like those of a small print: letters of 1 to 3 mm, a hyphen of 1.2,
+/// and a line that some words fit whole, some by a break, and some not.
+fn small_print() -> Gauge {
+    let mut rng = Rng::new(44);
+    let mut gauge = Gauge {
+        hyphen: 1.2,
+        line: 14.3,
+        letters: [0.0; WIDTHS],
+    };
+    for letter in &mut gauge.letters {
+        *letter = rng.range(10, 30) as f64 / 10.0;
+    }
+    gauge
+}
+
+/// Demands equal answers of all three sides on widths, for the words with their
+/// breaks, and on random widths, good and bad.
+fn compare_widths(words: &[Vec<u8>], rooms: &[[u8; 64]]) {
+    let mut rng = Rng::new(1_980);
+    for (word, room) in words.iter().zip(rooms) {
+        let mut gauge = match rng.below(4) {
+            0 => gauges::gauge(&mut rng),
+            _ => small_print(),
+        };
+        if rng.once_in(8) {
+            let place = rng.below(gauges::PLACES);
+            gauges::put(&mut gauge, place, gauges::bad_width(&mut rng));
+        }
+        let room = &room[..64 - rng.below(60) / 59];
+        let one = raw::fit(gauge.hyphen, gauge.line, &gauge.letters, word, room);
+        let other = handmade::fit(gauge.hyphen, gauge.line, &gauge.letters, word, room);
+        let plain = reference::fit_line(&gauge, word, room);
+        assert!(one == other && one == plain, "fit {:?} {:?}", gauge, word);
+    }
+}
+
+/// The call on widths over all words, each with its breaks.
+fn fit<'a>(words: &'a [Vec<u8>], rooms: &'a [[u8; 64]]) -> Case<'a> {
+    let side = |call: fn(&Gauge, &[u8], &[u8]) -> u64| -> Work<'a> {
+        let gauge = small_print();
+        Box::new(move || {
+            let mut next = rooms.iter();
+            sum(words, |word| {
+                call(&gauge, word, next.next().expect("a room for each word"))
+            })
+        })
+    };
+    Case {
+        name: "fit",
+        words: Some(words.len()),
+        sides: [
+            side(|gauge, word, room| {
+                raw::fit(gauge.hyphen, gauge.line, &gauge.letters, word, room)
+            }),
+            side(|gauge, word, room| {
+                handmade::fit(gauge.hyphen, gauge.line, &gauge.letters, word, room)
+            }),
+            side(reference::fit_line),
+        ],
+    }
+}
+
 /// The hyphenating call over all words.
 fn hyphenate<'a>(
     name: &'static str,
@@ -359,6 +421,11 @@ fn main() {
     assert!(length >> 56 == 0, "the list isn't packed");
     table.truncate(length as usize);
 
+    let mut rooms = vec![[0; 64]; words.len()];
+    for (word, room) in words.iter().zip(&mut rooms) {
+        raw::hyphenate(2, 3, word, b"", b"", &table, room);
+    }
+
     let mut cases = [
         levels(&words, &table),
         hyphenate("hyphenate, empty lists", &words, b"", &table),
@@ -366,6 +433,7 @@ fn main() {
         hyphenate("hyphenate, 8,192 bytes", few, &full, &table),
         pack(&text),
         check(&text, &table),
+        fit(&words, &rooms),
     ];
     if let Some((name, side)) = counted {
         let case = cases.iter_mut().find(|case| case.name == name);
@@ -375,6 +443,7 @@ fn main() {
     compare_random(40_000);
     compare(&words, &house, &text, &table);
     compare(few, &full, &text, &table);
+    compare_widths(&words, &rooms);
     println!("{} words, {} rounds, answers agree", words.len(), rounds);
     println!(
         "{:>10} {:>10} {:>9}  {:<24} {:>17} {:>17} {:>17}",

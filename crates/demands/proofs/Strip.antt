@@ -1,15 +1,15 @@
 -- CR 2 behind the hyphenating call: in the room that one leaves, the fitting call reads the word's breaks, and what it tells is one of them.
-use Prim.Native.Nat.{ℕ, _-_, _≤_, _<_}
+use Prim.Native.Nat.{ℕ, _≤_, _<_}
 use mathlib.Core.Bool.{Bool, true, false}
 use mathlib.Core.List.{List}
 use mathlib.Core.Logic.{_↔_}
-use mathlib.Core.Path.{_≡_, refl, sym, _∙_, ap}
+use mathlib.Core.Path.{_≡_, refl, sym, _∙_}
 use native.Mathlib.Omega.{arith}
 use lib.Ieee.{Float}
 use lib.ListN.{length, getD}
-use Rattle.base.specs.Limits.{roomSize, wordLimit}
+use Rattle.base.specs.Limits.{wordLimit}
 use Rattle.base.specs.Grounds.{Finds}
-use Rattle.base.proofs.Lists.{clash, untrue}
+use Rattle.base.proofs.Lists.{clash}
 use Rattle.rooms.specs.Rooms.{bit}
 use Rattle.words.proofs.Laws.{word-fits}
 use Rattle.table.specs.Table.{rootBase, cellsOf, entriesOf}

@@ -4,9 +4,8 @@ use mathlib.Core.Bool.{Bool, true, false}
 use mathlib.Core.List.{List, [], _∷_, _++_}
 use mathlib.Core.Path.{_≡_, refl}
 use lib.Dec.{eqb}
-use lib.IntN.{pos}
 use lib.ListN.{length, replicate}
-use lib.Ieee.{Float, nan, inf, fin, binary64, round, add, lt, isNan, ofBits, toBits}
+use lib.Ieee.{Float, nan, inf, binary64, round, add, lt, isNan, ofBits, toBits}
 use Rattle.base.specs.Limits.{roomSize, widthCount}
 use Rattle.base.specs.Grounds.{firstOf, oneOf}
 use Rattle.base.specs.Tests.{sameList}

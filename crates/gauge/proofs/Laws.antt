@@ -1,6 +1,6 @@
 -- Laws about widths, sums and what fits, one for each way through the code.
 use Prim.Native.Nat.{ℕ, zero, suc, _+_, _-_, _≤_, _<_}
-use mathlib.Core.Bool.{Bool, true, false, cond, not, _&&_, _||_}
+use mathlib.Core.Bool.{Bool, true, false, cond, not, _&&_}
 use mathlib.Core.List.{List, [], _∷_}
 use mathlib.Core.Path.{_≡_, refl, sym, _∙_, ap, subst}
 use native.Mathlib.Omega.{arith}
@@ -12,7 +12,7 @@ use lib.Seq.{drop-cons}
 use lib.Ieee.{Float, nan, inf, fin, binary64, add, lt, ne, isNan}
 use lib.Ieee.Compare.{differs-from-itself, nan-differs}
 use Rattle.base.specs.Limits.{roomSize, wordLimit, widthCount}
-use Rattle.base.specs.Grounds.{Said, Finds, Refuses, first, refuseIf}
+use Rattle.base.specs.Grounds.{Finds, refuseIf}
 use Rattle.base.specs.declared.Check.{Check}
 use Rattle.base.specs.declared.Check.the-variants.{Fine, Refused}
 use Rattle.base.specs.declared.Ground.{Ground}
@@ -24,9 +24,8 @@ use Rattle.words.specs.Words.{judgeWord}
 use Rattle.words.proofs.Laws.{small-low, small-high, symbol-small, word-some, word-fits, word-letter}
 use Rattle.words.proofs.Theorems.{letter-lower}
 use Rattle.gauge.specs.Widths.{zeroWidth, widthLimit, badWidth, anyBad, letterWidth, widthTo, fitsIn}
-use Rattle.gauge.specs.Fit.{isMarked, wholeFits, hyphenFits, breakFits, lastOf, wholeFound, breakFound, noneFound, breakOrNone, fitValues, given, judgeFit, fitSaid}
+use Rattle.gauge.specs.Fit.{isMarked, wholeFits, hyphenFits, breakFits, lastOf, breakFound, breakOrNone, fitValues, given, judgeFit, fitSaid}
 use Rattle.gauge.specs.declared.Gauge.{Gauge}
-use Rattle.gauge.specs.declared.Fitting.{Fitting}
 use Rattle.gauge.specs.declared.Fitting.the-variants as fittings
 
 -- one width, by the way the code goes

@@ -1,19 +1,19 @@
 -- What the call's promise comes to, in the customer's words.
-use Prim.Native.Nat.{ℕ, zero, suc, _+_, _-_, _≤_, _<_}
-use mathlib.Core.Bool.{Bool, true, false, cond, not, _&&_, _||_, or-true}
+use Prim.Native.Nat.{ℕ, zero, suc, _-_, _≤_, _<_}
+use mathlib.Core.Bool.{Bool, true, false, cond, _&&_, _||_, or-true}
 use mathlib.Core.List.{List, [], _∷_, map}
-use mathlib.Core.Logic.{_↔_, _⊎_, inl, inr}
+use mathlib.Core.Logic.{_↔_, inl, inr}
 use mathlib.Core.Path.{_≡_, refl, sym, _∙_, ap, subst}
 use native.Mathlib.Decide.{decLt}
 use native.Mathlib.Omega.{arith}
-use borrow.Author.Tests.{eqb-false, eq-eqb, ne-eqb, not-true, not-false}
+use borrow.Author.Tests.{eqb-false, ne-eqb, not-true}
 use lib.Dec.{eqb, ltb}
 use lib.IntN.{pos}
 use lib.ListN.{length, getD}
 use lib.Ieee.{Float, nan, inf, fin, binary64, add, ofInt, lt, isNan}
 use lib.Ieee.Scale.{finite}
 use Rattle.base.specs.Limits.{roomSize, wordLimit, widthCount}
-use Rattle.base.specs.Grounds.{plain, Said, Finds, Refuses, Row, says, on, firstOf, anyHolds, oneOf, first, refuseIf}
+use Rattle.base.specs.Grounds.{plain, Finds, Refuses, Row, says, on, firstOf, anyHolds, oneOf, first, refuseIf}
 use Rattle.base.specs.declared.Check.{Check}
 use Rattle.base.specs.declared.Check.the-variants.{Fine, Refused}
 use Rattle.base.specs.declared.Ground.the-variants.{RoomShort, BadWidth}
@@ -24,7 +24,7 @@ use Rattle.words.specs.Symbols.{small, capital, lower, symbolOf}
 use Rattle.words.specs.Words.{wordGrounds, judgeWord, wordSymbols}
 use Rattle.words.proofs.Laws.{word-fits}
 use Rattle.words.proofs.Theorems.{same-judgement, same-symbols, same-length}
-use Rattle.gauge.specs.Widths.{zeroWidth, widthLimit, badWidth, anyBad, letterWidth, widthTo, fitsIn}
+use Rattle.gauge.specs.Widths.{zeroWidth, widthLimit, badWidth, anyBad, letterWidth, widthTo}
 use Rattle.gauge.specs.Fit.{isMarked, wholeFits, hyphenFits, breakFits, lastOf, wholeFound, breakFound, noneFound, breakOrNone, fitValues, given, fitGrounds, fitSaid, fitAnswer, judgeFit}
 use Rattle.gauge.specs.Strip.{IsBreak, LastFitting, NoneFitting, FirstMisfit, Outside, SomeOutside}
 use Rattle.gauge.specs.declared.Gauge.{Gauge}
