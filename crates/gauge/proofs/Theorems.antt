@@ -43,23 +43,26 @@ given-count g widths e = omega (arith, e)
 
 -- the last number that passes a test, from both sides
 module _ (test : ℕ → Bool) where
+  -- the numbers behind k, up to n, fail
+  abbrev FailBehind : ℕ → ℕ → Type 0
+  FailBehind k n = (j : ℕ) → k < j → j ≤ n → test j ≡ false
+
   LastIs : ℕ → ℕ → Type 0
-  LastIs n zero = (j : ℕ) → 1 ≤ j → j ≤ n → test j ≡ false
-  LastIs n (suc k) = (k < n) × (test (suc k) ≡ true) × ((j : ℕ) → suc k < j → j ≤ n → test j ≡ false)
+  LastIs n zero = FailBehind 0 n
+  LastIs n (suc k) = (k < n) × (test (suc k) ≡ true) × FailBehind (suc k) n
 
   -- one number more that fails
+  fail-more : (k n : ℕ) → test (suc n) ≡ false → FailBehind k n → FailBehind k (suc n)
+  fail-more k n e h = λ j a b. go j a b (decLt j (suc n))
+    where
+      go : (j : ℕ) → k < j → j ≤ suc n → Dec (j < suc n) → test j ≡ false
+      go j a b (yes l) = h j a (omega arith)
+      go j a b (no l) = let i : j ≡ suc n = omega arith in rw i e
+
   last-more : (n k : ℕ) → test (suc n) ≡ false → LastIs n k → LastIs (suc n) k
   unfolding LastIs
-  last-more n zero e h = λ j a b. go j b (decLt j (suc n)) a
-    where
-      go : (j : ℕ) → j ≤ suc n → Dec (j < suc n) → 1 ≤ j → test j ≡ false
-      go j b (yes l) a = h j a (omega arith)
-      go j b (no l) a = let i : j ≡ suc n = omega arith in rw i e
-  last-more n (suc k) e h = (omega (arith, h .0), h .1, λ j a b. go j b (decLt j (suc n)) a)
-    where
-      go : (j : ℕ) → j ≤ suc n → Dec (j < suc n) → suc k < j → test j ≡ false
-      go j b (yes l) a = h .2 j a (omega arith)
-      go j b (no l) a = let i : j ≡ suc n = omega arith in rw i e
+  last-more n zero e h = fail-more 0 n e h
+  last-more n (suc k) e h = (omega (arith, h .0), h .1, fail-more (suc k) n e (h .2))
 
   last-is : (n : ℕ) → LastIs n (lastOf test n)
   unfolding lastOf LastIs

@@ -113,9 +113,9 @@ fn located_bits(at: Located) -> u64
 fn fitting_bits(outcome: usize, gap: usize) -> u64
     ensures { λ r. ⌜ r ≡ fittingBits outcome gap ⌝ }
 {
-    let high = outcome as u64 % 256;
+    let code = outcome as u64 % 256;
     let low = gap as u64 % 4294967296;
-    high * 4294967296 + low
+    code * 4294967296 + low
 }
 
 fn fit_bits(fitting: Fitting) -> u64
