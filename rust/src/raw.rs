@@ -3,10 +3,11 @@
 //!
 //! They are safe to use, because every pointer and length comes from a slice.
 //! Any bytes may be lent as texts and tables, any numbers as margins and
-//! widths, and rooms of any size. `include/tteolmigu.h` says what the bits are and what each call
-//! leaves in its room; [`Ground::of_answer`](crate::Ground::of_answer) reads a
-//! refusal. Most programs want [`Table`](crate::Table) instead; these are for
-//! rooms that somebody else lends, and for tests that compare each bit.
+//! widths, and rooms of any size. `include/tteolmigu.h` says what the bits are
+//! and what each call leaves in its room;
+//! [`Ground::of_answer`](crate::Ground::of_answer) reads a refusal. Most
+//! programs want [`Table`](crate::Table) instead; these are for rooms that
+//! somebody else lends, and for tests that compare each bit.
 //!
 //! This is the only module with `unsafe` in it.
 

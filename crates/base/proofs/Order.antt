@@ -32,15 +32,13 @@ found-none (row ∷ rows) values found e = go (row .holds) e (found-none rows va
     go true p next = no-refusal (sym p)
     go false p next = next p
 
--- ... and then tells just these values
-values-of : Said → List ℕ
-values-of (Finds values) = values
-values-of (Refuses t) = []
+-- and then it tells just these values
+finds-once : {values found : List ℕ} → Finds values ≡ Finds found → values ≡ found
+finds-once e = cc
 
 pub finds-exactly : (rows : List Row) (values found : List ℕ) → (firstOf (Finds values) rows ≡ Finds found) ↔ ((anyHolds rows ≡ false) × (values ≡ found))
-unfolding values-of
 finds-exactly rows values found = (
-  λ e. let none = found-none rows values found e in (none, ap values-of (sym (none-found rows values none) ∙ e)),
+  λ e. let none = found-none rows values found e in (none, finds-once (sym (none-found rows values none) ∙ e)),
   λ p. none-found rows values (p .0) ∙ ap Finds (p .1),
 )
 

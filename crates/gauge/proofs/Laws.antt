@@ -105,12 +105,12 @@ module _ (g : Gauge) (widths : List Float) (word : List ℕ) (size : ℕ) where
 
 -- what a call that isn't refused may go on with
 pub fit-judged : (g : Gauge) (widths : List Float) (word : List ℕ) (size : ℕ) {judged : Check} → judged ≡ judgeFit g widths word size → judged ≡ Fine
-    → (judgeWord wordLimit word ≡ Fine) × (roomSize ≤ size)
+    → (judgeWord wordLimit word ≡ Fine) × (roomSize ≤ size) × (anyBad (given g widths) ≡ false)
 unfolding judgeFit
 fit-judged g widths word size p e =
     let a = both-fine (refuseIf (ltb size roomSize) RoomShort) _ (sym p ∙ e) in
     let b = both-fine (judgeWord wordLimit word) _ (a .1) in
-    (b .0, ltb-false size roomSize (not-refused (ltb size roomSize) RoomShort (a .0)))
+    (b .0, ltb-false size roomSize (not-refused (ltb size roomSize) RoomShort (a .0)), not-refused (anyBad (given g widths)) BadWidth (b .1))
 
 -- a letter's number in the alphabet, 1 to 26
 letter-range : (b : ℕ) → letter b ≡ true → (1 ≤ symbolOf (lower b)) × (symbolOf (lower b) ≤ widthCount)
@@ -178,7 +178,7 @@ module _ (g : Gauge) (widths : List Float) (word room : List ℕ) where
 
   module _ {i : ℕ} {width : Float} {found : ℕ} (m : Measured g widths word room i width found) {w : Float} (l : w ≡ letterWidth widths (getD word i 0)) where
     -- a letter more
-    pub width-more : add binary64 width w ≡ widthTo widths word (i + 1)
+    width-more : add binary64 width w ≡ widthTo widths word (i + 1)
     unfolding widthTo
     width-more = rw (add-one, m .sum, l)
 

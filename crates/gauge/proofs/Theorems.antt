@@ -13,11 +13,10 @@ use lib.ListN.{length, getD}
 use lib.Ieee.{Float, nan, inf, fin, binary64, add, ofInt, lt, isNan}
 use lib.Ieee.Scale.{finite}
 use Rattle.base.specs.Limits.{roomSize, wordLimit, widthCount}
-use Rattle.base.specs.Grounds.{plain, Finds, Refuses, Row, says, on, firstOf, anyHolds, oneOf, first, refuseIf}
+use Rattle.base.specs.Grounds.{plain, Finds, Refuses, Row, says, on, firstOf, anyHolds, oneOf}
 use Rattle.base.specs.declared.Check.{Check}
 use Rattle.base.specs.declared.Check.the-variants.{Fine, Refused}
-use Rattle.base.specs.declared.Ground.the-variants.{RoomShort, BadWidth}
-use Rattle.base.proofs.Grounds.{Ordered, both-fine, not-refused, judged-by, said-found, said-refused}
+use Rattle.base.proofs.Grounds.{Ordered, judged-by, said-found, said-refused}
 use Rattle.base.proofs.Lists.{never, both, untrue}
 use Rattle.base.proofs.Order.{finds-exactly, last-exactly, none-found}
 use Rattle.words.specs.Symbols.{small, capital, lower, symbolOf}
@@ -271,31 +270,24 @@ module _ (g : Gauge) (widths : List Float) (word room : List ℕ) where
 
   -- ---- What a call that isn't refused was given.
   module _ (fine : NoGround) where
-    judged : judgeFit g widths word (length room) ≡ Fine
+    judged : (judgeWord wordLimit word ≡ Fine) × (roomSize ≤ length room) × (anyBad (given g widths) ≡ false)
     unfolding says
-    judged = sym (judged-by (fit-ordered g widths word (length room)) (sym (none-found (fitGrounds g widths word (length room)) [] fine)))
-
-    fine-widths : anyBad (given g widths) ≡ false
-    unfolding judgeFit
-    fine-widths =
-        let a = both-fine (refuseIf (ltb (length room) roomSize) RoomShort) _ judged in
-        let b = both-fine (judgeWord wordLimit word) _ (a .1) in
-        not-refused (anyBad (given g widths)) BadWidth (b .1)
+    judged = fit-judged g widths word (length room) (judged-by (fit-ordered g widths word (length room)) (sym (none-found (fitGrounds g widths word (length room)) [] fine))) refl
 
     fine-hyphen : badWidth (g .hyphen) ≡ false
     unfolding anyBad
-    fine-hyphen = nor (badWidth (g .hyphen)) _ fine-widths .0
+    fine-hyphen = nor (badWidth (g .hyphen)) _ (judged .2) .0
 
     fine-line : badWidth (g .line) ≡ false
     unfolding anyBad
-    fine-line = nor (badWidth (g .line)) _ (nor (badWidth (g .hyphen)) _ fine-widths .1) .0
+    fine-line = nor (badWidth (g .line)) _ (nor (badWidth (g .hyphen)) _ (judged .2) .1) .0
 
     fine-letters : anyBad widths ≡ false
     unfolding anyBad
-    fine-letters = nor (badWidth (g .line)) _ (nor (badWidth (g .hyphen)) _ fine-widths .1) .1
+    fine-letters = nor (badWidth (g .line)) _ (nor (badWidth (g .hyphen)) _ (judged .2) .1) .1
 
     short : length word ≤ wordLimit
-    short = word-fits wordLimit word (fit-judged g widths word (length room) (sym judged) refl .0)
+    short = word-fits wordLimit word (judged .0)
 
     -- Every sum that is compared with the line is finite.
     pub sums-finite : (i : ℕ) → i ≤ length word → (finite (widthTo widths word i) ≡ true) × (finite (add binary64 (widthTo widths word i) (g .hyphen)) ≡ true)

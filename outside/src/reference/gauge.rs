@@ -77,12 +77,9 @@ fn width_of<A: Arithmetic>(gauge: &Gauge, symbols: &[u8]) -> f64 {
 
 /// The widths of a word's beginnings: at i that of the first i letters.
 pub fn beginnings<A: Arithmetic>(gauge: &Gauge, symbols: &[u8]) -> Vec<f64> {
-    let mut sums = vec![0.0];
-    for &symbol in symbols {
-        let before = sums[sums.len() - 1];
-        sums.push(A::add(before, gauge.letters[symbol as usize - 1]));
-    }
-    sums
+    (0..=symbols.len())
+        .map(|letters| width_of::<A>(gauge, &symbols[..letters]))
+        .collect()
 }
 
 /// What comes out for a word of so many letters: the whole word if it fits,
