@@ -1,10 +1,15 @@
 // The lookup of a word's exception line.
 use base::Check;
+ghost use Prim.Native.Nat.{_+_, _*_};
+ghost use mathlib.Core.Bool.{not, _&&_, cond};
 ghost use mathlib.Core.List.{[]};
 ghost use mathlib.Core.Path.{_≡_};
 ghost use denote.Ref.{ptr};
+ghost use lib.Bits.{bitOr};
+ghost use lib.Dec.{eqb, leb};
+ghost use lib.ListN.{length, getD, drop};
 ghost use Rattle.base.specs.Grounds.{Finds, says, firstOf};
-ghost use Rattle.words.specs.Symbols.{symbolsOf};
+ghost use Rattle.words.specs.Symbols.{small, lower, symbolOf, symbolsOf};
 ghost use Rattle.words.specs.Words.{wordSymbols};
 ghost use Rattle.base.specs.Tests.{sameList};
 ghost use Rattle.lookup.specs.Find.{find, findEither};
@@ -23,12 +28,67 @@ pub enum Located {
     Nowhere,
 }
 
-// Has this line the word's letters, whatever their case?
-pub fn is_line_of(word: &[u8], line: &[u8]) -> bool
-    ensures { λ r. ⌜ r ≡ sameList (wordSymbols (now (word .entry))) (symbolsOf (now (line .entry))) ⌝ }
+// The bit that a small letter has and its capital lacks.
+const SMALL_BIT: u8 = 32;
+
+// A number past every byte.
+const PAST_BYTES: u32 = 256;
+
+// A byte of the word as it is held against a small letter, which it meets exactly if it is that letter or its capital.
+fn folded(a: u8) -> u8
+    ensures { λ r. ⌜ r ≡ bitOr a 32 ⌝ }
 {
-    let mut i = 0;
-    let mut j = 0;
+    a | SMALL_BIT
+}
+
+// How far a byte of the line is moved that the word's byte meets: out of the letters' reach.
+fn met_by(a: u8, b: u8) -> u32
+    ensures { λ r. ⌜ r ≡ cond (eqb (bitOr a 32) b) 256 0 ⌝ }
+{
+    if folded(a) == b {
+        return PAST_BYTES;
+    }
+    0
+}
+
+// Is b a letter, and the word's byte a another one? As two tests this would be two branches, one of them decided by where the hyphens
+// stand, which no processor foresees; as a test of one number it is one.
+fn parts(a: u8, b: u8) -> bool
+    ensures { λ r. ⌜ r ≡ (small b && not (eqb (lower a) b)) ⌝ }
+{
+    let left = b as u32 + met_by(a, b);
+    if left < b'a' as u32 {
+        return false;
+    }
+    left <= b'z' as u32
+}
+
+// Is this a symbol that is no letter? No good line has one.
+fn is_other(b: u8) -> bool
+    ensures { λ r. ⌜ r ≡ (not (small b) && not (eqb (symbolOf b) 0)) ⌝ }
+{
+    if words::is_small(b) {
+        return false;
+    }
+    words::symbol_of(b) != 0
+}
+
+// How many letters a byte of a line is: one or none.
+fn letters_in(b: u8) -> usize
+    ensures { λ r. ⌜ r ≡ cond (small b) 1 0 ⌝ }
+{
+    if words::is_small(b) {
+        return 1;
+    }
+    0
+}
+
+// Has the line, from a place on, the symbols of the word from its place on? This serves every line.
+fn same_symbols(word: &[u8], line: &[u8], from: usize, at: usize) -> bool
+    ensures { λ r. ⌜ r ≡ sameList (wordSymbols (drop from (now (word .entry)))) (symbolsOf (drop at (now (line .entry)))) ⌝ }
+{
+    let mut i = from;
+    let mut j = at;
     while j < line.len() {
         let y = words::symbol_of(line[j]);
         j += 1;
@@ -42,7 +102,72 @@ pub fn is_line_of(word: &[u8], line: &[u8]) -> bool
             i += 1;
         }
     }
-    i == word.len()
+    word.len() <= i
+}
+
+// The same from one place of both on, and quicker while the line has letters and hyphens and the word isn't used up.
+fn same_letters(word: &[u8], line: &[u8], start: usize) -> bool
+    ensures { λ r. ⌜ r ≡ sameList (wordSymbols (drop start (now (word .entry)))) (symbolsOf (drop start (now (line .entry)))) ⌝ }
+{
+    let mut i = start;
+    let mut j = start;
+    while i < word.len() {
+        if line.len() <= j {
+            return false;
+        }
+        if is_other(line[j]) {
+            return same_symbols(word, line, i, j);
+        }
+        if parts(word[i], line[j]) {
+            return false;
+        }
+        i += letters_in(line[j]);
+        j += 1;
+    }
+    same_symbols(word, line, i, j)
+}
+
+// Two bytes in one number.
+fn pair_of(a: u8, b: u8) -> u32
+    ensures { λ r. ⌜ r ≡ a * 256 + b ⌝ }
+{
+    a as u32 * PAST_BYTES + b as u32
+}
+
+// Do two bytes of the word meet two of the line? They are compared at once.
+fn meet_both(a: u8, b: u8, c: u8, d: u8) -> bool
+    ensures { λ r. ⌜ r ≡ (eqb (bitOr a 32) c && eqb (bitOr b 32) d) ⌝ }
+{
+    pair_of(folded(a), folded(b)) == pair_of(c, d)
+}
+
+// Has the word two bytes, and does the line begin with two letters?
+fn has_pairs(word: &[u8], line: &[u8]) -> bool
+    ensures { λ r. ⌜ r ≡ (leb 2 (length (now (word .entry))) && (leb 2 (length (now (line .entry))) && (small (getD (now (line .entry)) 0 0) && small (getD (now (line .entry)) 1 0)))) ⌝ }
+{
+    if word.len() < 2 {
+        return false;
+    }
+    if line.len() < 2 {
+        return false;
+    }
+    if !words::is_small(line[0]) {
+        return false;
+    }
+    words::is_small(line[1])
+}
+
+// Has this line the word's letters, whatever their case? Most lines part from a word in its first two letters, so these come first.
+pub fn is_line_of(word: &[u8], line: &[u8]) -> bool
+    ensures { λ r. ⌜ r ≡ sameList (wordSymbols (now (word .entry))) (symbolsOf (now (line .entry))) ⌝ }
+{
+    if !has_pairs(word, line) {
+        return same_letters(word, line, 0);
+    }
+    if !meet_both(word[0], word[1], line[0], line[1]) {
+        return false;
+    }
+    same_letters(word, line, 2)
 }
 
 // The word's line in a list.

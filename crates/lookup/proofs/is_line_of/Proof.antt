@@ -1,57 +1,51 @@
--- Word and line agree so far, so they are the same where their rests are; what is left of the line falls.
 use borrow.Author.Needs.{needs}
-use Prim.Native.Nat.{_≤_, _-_}
-use mathlib.Core.Path.{_≡_, sym, _∙_}
-use lib.ListN.{length}
-use Rattle.words.specs.Symbols.{symbolsOf}
-use Rattle.words.specs.Words.{wordSymbols}
-use Rattle.base.specs.Tests.{sameList}
+use borrow.Author.Tests.{not-true, not-false}
+use mathlib.Core.Path.{sym, _∙_}
+use native.Mathlib.Omega.{arith}
 use Rattle.lookup.proofs.Laws as law
 use Rattle.lookup.proofs.is_line_of.Statement.{statement}
 use Rattle.lookup.proofs.is_line_of.Tie as tie
 
-abbrev Inv-loop : tie.InvT-loop
-Inv-loop word line i₀ j₀ i j = (i ≤ length word) × (j ≤ length line) × (sameList (wordSymbols word) (symbolsOf line) ≡ law.sameFrom word i line j)
+shared-slice-read-meet-both : tie.Need-shared-slice-read-meet-both
+shared-slice-read-meet-both c = let s = c .before .before .before .before .before in law.word-has (s .args .word .now) (s .args .line .now) (sym (c .before .before .has-pairs .ensures) ∙ not-false _ (c .before .if1 .left)) 0 (omega arith)
 
-abbrev μ-loop : tie.MeasureT-loop
-μ-loop word line i₀ j₀ i j = length line - j
+shared-slice-read-meet-both-2 : tie.Need-shared-slice-read-meet-both-2
+shared-slice-read-meet-both-2 c = let s = c .before .before .before .before .before .before in law.word-has (s .args .word .now) (s .args .line .now) (sym (c .before .before .before .has-pairs .ensures) ∙ not-false _ (c .before .before .if1 .left)) 1 (omega arith)
 
-loop-holds : tie.Need-loop-holds Inv-loop μ-loop
-loop-holds c = (search needs, search needs, law.same-start _ _)
+shared-slice-read-meet-both-3 : tie.Need-shared-slice-read-meet-both-3
+shared-slice-read-meet-both-3 c = let s = c .before .before .before .before .before .before .before in law.line-has (s .args .word .now) (s .args .line .now) (sym (c .before .before .before .before .has-pairs .ensures) ∙ not-false _ (c .before .before .before .if1 .left)) 0 (omega arith)
 
-returns : tie.Need-returns Inv-loop μ-loop
-returns c = sym (c .before .before .before .before .before .loop .inv .2 ∙ law.same-short _ _ _ _ (c .before .before .before .before .loop-test .taken) (c .before .before .symbol-of .ensures) (c .before .if1 .taken) (c .if2 .taken))
+shared-slice-read-meet-both-4 : tie.Need-shared-slice-read-meet-both-4
+shared-slice-read-meet-both-4 c = let s = c .before .before .before .before .before .before .before .before in law.line-has (s .args .word .now) (s .args .line .now) (sym (c .before .before .before .before .before .has-pairs .ensures) ∙ not-false _ (c .before .before .before .before .if1 .left)) 1 (omega arith)
 
-returns-2 : tie.Need-returns-2 Inv-loop μ-loop
-returns-2 c = sym (c .before .before .before .before .before .before .before .before .before .loop .inv .2 ∙ law.same-differs _ _ _ _ (c .before .before .before .before .before .before .before .before .loop-test .taken) (c .before .before .before .before .before .before .symbol-of .ensures) (c .before .before .before .before .before .if1 .taken) (c .before .before .before .before .if2 .left) (c .before .before .lower-of .ensures) (c .before .symbol-of2 .ensures) (c .if3 .taken))
+returns-2 : tie.Need-returns-2
+returns-2 c =
+    let s = c .before .before .before .before .before .before .before .before .before .before in
+    sym
+    (law.same-start _ 0 _ 0
+    ∙ law.pair-parts (s .args .word .now) (s .args .line .now) (sym (c .before .before .before .before .before .before .before .has-pairs .ensures) ∙ not-false _ (c .before .before .before .before .before .before .if1 .left)) (sym (c .before .meet-both .ensures) ∙ not-true _ (c .if2 .taken)))
 
-loop-again : tie.Need-loop-again Inv-loop μ-loop
-loop-again c = (search needs, search needs, c .before .before .before .before .before .before .before .before .before .loop .inv .2 ∙ law.same-agrees _ _ _ _ (c .before .before .before .before .before .before .before .before .loop-test .taken) (c .before .before .before .before .before .before .symbol-of .ensures) (c .before .before .before .before .before .if1 .taken) (c .before .before .before .before .if2 .left) (c .before .before .lower-of .ensures) (c .before .symbol-of2 .ensures) (c .if3 .left))
-
-loop-again-2 : tie.Need-loop-again-2 Inv-loop μ-loop
-loop-again-2 c = (search needs, search needs, c .before .before .before .before .loop .inv .2 ∙ law.same-skip _ _ _ _ (c .before .before .before .loop-test .taken) (c .before .symbol-of .ensures) (c .if1 .left))
-
-returns-3 : tie.Need-returns-3 Inv-loop μ-loop
-returns-3 c = sym (c .before .loop .inv .2 ∙ law.same-end _ _ _ _ (c .before .loop .inv .0) (c .loop-test .left))
+returns-3 : tie.Need-returns-3
+returns-3 c =
+    let s = c .before .before .before .before .before .before .before .before .before .before .before in
+    c .same-letters2 .ensures
+    ∙ law.same-start _ 2 _ 2
+    ∙ sym
+    (law.same-start _ 0 _ 0
+    ∙ law.pair-agrees (s .args .word .now) (s .args .line .now) (sym (c .before .before .before .before .before .before .before .before .has-pairs .ensures) ∙ not-false _ (c .before .before .before .before .before .before .before .if1 .left)) (sym (c .before .before .meet-both .ensures) ∙ not-false _ (c .before .if2 .left)))
 
 pub is-line-of-spec : {M : Type 1} → statement M
 is-line-of-spec =
     tie.close
     (tie.spec
-    Inv-loop
-    μ-loop
-    loop-holds
-    (λ c. search needs)
     (λ c κs. search needs)
-    (λ c. search needs)
-    returns
-    (λ c. search needs)
     (λ c κs. search needs)
+    (λ c. c .same-letters .ensures)
+    shared-slice-read-meet-both
+    shared-slice-read-meet-both-2
+    shared-slice-read-meet-both-3
+    shared-slice-read-meet-both-4
     (λ c κs. search needs)
     returns-2
-    (λ c. search needs)
-    (λ c. search needs)
-    loop-again
-    (λ c. search needs)
-    loop-again-2
+    (λ c κs. search needs)
     returns-3)

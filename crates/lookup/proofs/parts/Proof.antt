@@ -1,0 +1,18 @@
+use borrow.Author.Needs.{needs}
+use mathlib.Core.Path.{refl}
+use native.Mathlib.Omega.{arith}
+use Rattle.lookup.proofs.Letters.{met-most, parts-below, parts-from}
+use Rattle.lookup.proofs.parts.Statement.{statement}
+use Rattle.lookup.proofs.parts.Tie as tie
+
+add-left : tie.Need-add-left
+add-left c = omega (arith, met-most (c .before .args .a) (c .before .args .b) (c .met-by .ensures), c .before .fits)
+
+returns : tie.Need-returns
+returns c = parts-below (c .before .before .args .a) (c .before .before .args .b) (c .before .met-by .ensures) refl (c .if1 .taken)
+
+returns-2 : tie.Need-returns-2
+returns-2 c = parts-from (c .before .before .args .a) (c .before .before .args .b) (c .before .met-by .ensures) refl (c .if1 .left)
+
+pub parts-spec : {M : Type 1} → statement M
+parts-spec = tie.close (tie.spec (λ c κs. search needs) add-left (λ c. search needs) returns (λ c. search needs) returns-2)
