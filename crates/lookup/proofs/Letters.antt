@@ -12,6 +12,17 @@ use lib.Pow.{split}
 use Rattle.words.specs.Symbols.{small, lower, symbolOf, dot}
 use Rattle.words.proofs.Laws.{from-range, small-low, small-high, lower-below, lower-capital, lower-above, symbol-small, symbol-dot, symbol-none}
 
+-- a number that a test chose
+pub chosen : (t : Bool) (x y : ℕ) → t ≡ true → x ≡ cond t x y
+chosen t x y e = rw e
+
+pub not-chosen : (t : Bool) (x y : ℕ) → t ≡ false → y ≡ cond t x y
+not-chosen t x y e = rw e
+
+pub chosen-most : (t : Bool) (x : ℕ) {n : ℕ} → n ≡ cond t x 0 → n ≤ x
+chosen-most true x e = omega (arith, e)
+chosen-most false x e = omega (arith, e)
+
 -- a byte with the bit of small letters set
 lowest-set : (n : ℕ) → bitOr n 1 ≡ n / 2 * 2 + 1
 lowest-set n = or-step n 1 ∙ ap₂ (λ (x y : ℕ). x * 2 + y) (or-zero-r (n / 2)) (max-eq-right (omega arith))
@@ -43,19 +54,6 @@ module _ (a b : ℕ) (s : small b ≡ true) where
       go : Dec (65 ≤ a) → eqb (bitOr a 32) b ≡ eqb (lower a) b
       go (yes h) = from-capitals h (decLe a 90) (decLe a 95) (decLe a 127)
       go (no h) = below-capitals (omega arith)
-
-pub met-yes : (a b : ℕ) → bitOr a 32 ≡ b → _≡_ {A = ℕ} 256 (cond (eqb (bitOr a 32) b) 256 0)
-met-yes a b e = rw (eq-eqb (bitOr a 32) b e)
-
-pub met-no : (a b : ℕ) → (bitOr a 32 ≡ b → ⊥) → _≡_ {A = ℕ} 0 (cond (eqb (bitOr a 32) b) 256 0)
-met-no a b e = rw (ne-eqb (bitOr a 32) b e)
-
-pub met-most : (a b : ℕ) {met : ℕ} → met ≡ cond (eqb (bitOr a 32) b) 256 0 → met ≤ 256
-met-most a b {met} m = go (eqb (bitOr a 32) b) m
-  where
-    go : (z : Bool) → met ≡ cond z 256 0 → met ≤ 256
-    go true e = omega (arith, e)
-    go false e = omega (arith, e)
 
 small-from : (b : ℕ) → 97 ≤ b → leb b 122 ≡ small b
 unfolding small
@@ -108,16 +106,3 @@ other-not b s = rw s
 
 pub other-if : (b : ℕ) {y : ℕ} → small b ≡ false → y ≡ symbolOf b → not (eqb y 0) ≡ (not (small b) && not (eqb (symbolOf b) 0))
 other-if b s e = rw (s, e)
-
-pub letters-one : (b : ℕ) → small b ≡ true → _≡_ {A = ℕ} 1 (cond (small b) 1 0)
-letters-one b s = rw s
-
-pub letters-none : (b : ℕ) → small b ≡ false → _≡_ {A = ℕ} 0 (cond (small b) 1 0)
-letters-none b s = rw s
-
-pub letters-most : (b : ℕ) {n : ℕ} → n ≡ cond (small b) 1 0 → n ≤ 1
-letters-most b {n} e = go (small b) e
-  where
-    go : (z : Bool) → n ≡ cond z 1 0 → n ≤ 1
-    go true p = omega (arith, p)
-    go false p = omega (arith, p)

@@ -119,6 +119,45 @@ fn hyphened(word: &[u8], gaps: u64) -> Vec<u8> {
     line
 }
 
+/// Every word of up to five letters out of two, small or capital, against every
+/// line of up to five of these letters with every set of hyphens.
+pub fn all_words_and_lines(run: &mut Run) -> Result<(), Mismatch> {
+    run.once(|lab, _| {
+        all_texts(b"ab", 5, |letters| {
+            for hyphens in 0..1u64 << letters.len().saturating_sub(1) {
+                let line = hyphened(letters, hyphens);
+                all_texts(b"abAB", 5, |word| lab.lookup(word, &line, b"").map(drop))?;
+            }
+            Ok(())
+        })
+    })
+}
+
+/// The longest words, with another letter or a capital at each place, and cut
+/// there, against their line with no hyphen, with one there, and with all.
+pub fn long_words_and_lines(run: &mut Run) -> Result<(), Mismatch> {
+    run.once(|lab, _| {
+        for letters in [62, 63] {
+            let whole: Vec<u8> = (0..letters).map(|place| b'a' + place % 26).collect();
+            for place in 0..whole.len() {
+                let (mut other, mut capital) = (whole.clone(), whole.clone());
+                other[place] = b'a' + (other[place] - b'a' + 13) % 26;
+                capital[place].make_ascii_uppercase();
+                for gaps in [0, 1 << place, u64::MAX] {
+                    let line = hyphened(&whole, gaps);
+                    for word in [&whole, &other, &capital, &whole[..place].to_vec()] {
+                        lab.lookup(word, &line, b"")?;
+                        lab.lookup(word, b"", &line)?;
+                    }
+                    let shorter = hyphened(&whole[..place.max(1)], gaps);
+                    lab.lookup(&whole, &shorter, &line)?;
+                }
+            }
+        }
+        Ok(())
+    })
+}
+
 /// All short texts over the bytes that matter, as either list.
 pub fn all_short_texts(run: &mut Run) -> Result<(), Mismatch> {
     let table = Packed::of_text(b"").table;

@@ -113,6 +113,8 @@ pub fn all(options: &Options) -> Vec<Test> {
     add("exceptions", exceptions::random_lists);
     add("exception-margins", exceptions::line_margins);
     add("exception-long-margins", exceptions::long_line_margins);
+    add("exception-words", exceptions::all_words_and_lines);
+    add("exception-long-words", exceptions::long_words_and_lines);
     add("exception-texts", exceptions::all_short_texts);
     add("exception-bytes", exceptions::all_bytes);
     add("exception-text-limit", exceptions::text_limit);

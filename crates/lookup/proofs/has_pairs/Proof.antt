@@ -1,7 +1,7 @@
 use borrow.Author.Needs.{needs}
 use borrow.Author.Tests.{not-true, not-false}
 use mathlib.Core.Path.{sym, _∙_}
-use Rattle.lookup.proofs.Laws as law
+use Rattle.lookup.proofs.Compare as law
 use Rattle.lookup.proofs.has_pairs.Statement.{statement}
 use Rattle.lookup.proofs.has_pairs.Tie as tie
 

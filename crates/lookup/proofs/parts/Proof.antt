@@ -1,12 +1,14 @@
 use borrow.Author.Needs.{needs}
 use mathlib.Core.Path.{refl}
 use native.Mathlib.Omega.{arith}
-use Rattle.lookup.proofs.Letters.{met-most, parts-below, parts-from}
+use lib.Bits.{bitOr}
+use lib.Dec.{eqb}
+use Rattle.lookup.proofs.Letters.{chosen-most, parts-below, parts-from}
 use Rattle.lookup.proofs.parts.Statement.{statement}
 use Rattle.lookup.proofs.parts.Tie as tie
 
 add-left : tie.Need-add-left
-add-left c = omega (arith, met-most (c .before .args .a) (c .before .args .b) (c .met-by .ensures), c .before .fits)
+add-left c = let s = c .before in omega (arith, chosen-most (eqb (bitOr (s .args .a) 32) (s .args .b)) 256 (c .met-by .ensures), s .fits)
 
 returns : tie.Need-returns
 returns c = parts-below (c .before .before .args .a) (c .before .before .args .b) (c .before .met-by .ensures) refl (c .if1 .taken)

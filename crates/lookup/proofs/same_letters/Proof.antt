@@ -3,12 +3,12 @@ use borrow.Author.Needs.{needs}
 use Prim.Native.Nat.{_-_}
 use mathlib.Core.Path.{_≡_, sym, _∙_}
 use native.Mathlib.Omega.{arith}
-use lib.ListN.{length, drop}
-use Rattle.words.specs.Symbols.{symbolsOf}
+use lib.ListN.{length, getD, drop}
+use Rattle.words.specs.Symbols.{small, symbolsOf}
 use Rattle.words.specs.Words.{wordSymbols}
 use Rattle.base.specs.Tests.{sameList}
-use Rattle.lookup.proofs.Letters.{letters-most}
-use Rattle.lookup.proofs.Laws as law
+use Rattle.lookup.proofs.Letters.{chosen-most}
+use Rattle.lookup.proofs.Compare as law
 use Rattle.lookup.proofs.same_letters.Statement.{statement}
 use Rattle.lookup.proofs.same_letters.Tie as tie
 
@@ -29,17 +29,22 @@ returns-2 c = c .same-symbols .ensures ∙ law.same-start _ _ _ _ ∙ sym (c .be
 
 returns-3 : tie.Need-returns-3 Inv-loop μ-loop
 returns-3 c =
+    let t = c .before .before .before .before .before .before .before in
     sym
-    (c .before .before .before .before .before .before .before .before .before .loop .inv
-    ∙ law.letters-part _ _ _ _ (c .before .before .before .before .before .before .before .before .loop-test .taken) (c .before .before .before .before .before .before .before .if1 .left) (sym (c .before .parts .ensures) ∙ c .if3 .taken))
+    (t .before .before .loop .inv
+    ∙ law.letters-part _ _ _ _ (t .before .loop-test .taken) (t .if1 .left) (sym (c .before .parts .ensures) ∙ c .if3 .taken))
 
 add-i : tie.Need-add-i Inv-loop μ-loop
-add-i c = omega (arith, letters-most _ (c .letters-in .ensures), c .before .before .before .before .before .before .before .before .before .before .loop-test .taken)
+add-i c =
+    let t = c .before .before .before .before .before .before .before .before .before .before in
+    let s = t .before .before .before .before in
+    omega (arith, t .loop-test .taken, chosen-most (small (getD (s .args .line .now) (t .before .loop .j) 0)) 1 (c .letters-in .ensures))
 
 loop-again : tie.Need-loop-again Inv-loop μ-loop
 loop-again c =
-    c .before .before .before .before .before .before .before .before .before .before .before .loop .inv
-    ∙ law.letters-on _ _ _ _ (c .before .before .before .before .before .before .before .before .before .before .loop-test .taken) (c .before .before .before .before .before .before .before .before .before .if1 .left) (sym (c .before .before .before .before .before .before .before .is-other .ensures) ∙ c .before .before .before .before .before .before .if2 .left)
+    let t = c .before .before .before .before .before .before .before .before .before in
+    t .before .before .loop .inv
+    ∙ law.letters-on _ _ _ _ (t .before .loop-test .taken) (t .if1 .left) (sym (c .before .before .before .before .before .before .before .is-other .ensures) ∙ c .before .before .before .before .before .before .if2 .left)
     (sym (c .before .before .before .parts .ensures) ∙ c .before .before .if3 .left) (c .letters-in .ensures)
 
 returns-4 : tie.Need-returns-4 Inv-loop μ-loop

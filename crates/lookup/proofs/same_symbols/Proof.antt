@@ -6,7 +6,7 @@ use lib.ListN.{length, drop}
 use Rattle.words.specs.Symbols.{symbolsOf}
 use Rattle.words.specs.Words.{wordSymbols}
 use Rattle.base.specs.Tests.{sameList}
-use Rattle.lookup.proofs.Laws as law
+use Rattle.lookup.proofs.Compare as law
 use Rattle.lookup.proofs.same_symbols.Statement.{statement}
 use Rattle.lookup.proofs.same_symbols.Tie as tie
 
