@@ -79,14 +79,14 @@ module _ (a b : ℕ) {left met : ℕ} (m : met ≡ cond (eqb (bitOr a 32) b) 256
 
 -- two bytes in one number each are the same exactly where both are
 pub both-met :
-    (a b c d : ℕ) → b < 256 → d < 256 → {f g x y : ℕ} → f ≡ bitOr a 32 → g ≡ bitOr b 32 → x ≡ f * 256 + g → y ≡ c * 256 + d
+    (a b c d : ℕ) → a < 256 → c < 256 → {f g x y : ℕ} → f ≡ bitOr a 32 → g ≡ bitOr b 32 → x ≡ f + g * 256 → y ≡ c + d * 256
     → eqb x y ≡ (eqb (bitOr a 32) c && eqb (bitOr b 32) d)
 both-met a b c d h k {f} {g} {x} {y} i j p q = go (eqb (bitOr a 32) c) refl (eqb (bitOr b 32) d) refl
   where
     go : (t : Bool) → eqb (bitOr a 32) c ≡ t → (u : Bool) → eqb (bitOr b 32) d ≡ u → eqb x y ≡ (t && u)
     go true m true n = eq-eqb x y (omega (arith, i, j, p, q, eqb-true (bitOr a 32) c m, eqb-true (bitOr b 32) d n))
     go true m false n = ne-eqb x y (λ e. eqb-false (bitOr b 32) d n (omega (arith, e, i, j, p, q, eqb-true (bitOr a 32) c m)))
-    go false m u n = ne-eqb x y (λ e. eqb-false (bitOr a 32) c m (omega (arith, e, i, j, p, q, h, k, bit-set b)))
+    go false m u n = ne-eqb x y (λ e. eqb-false (bitOr a 32) c m (omega (arith, e, i, j, p, q, h, k, bit-set a)))
 
 -- no other symbol is a letter's
 pub one-letter : (x b : ℕ) → small b ≡ true → symbolOf x ≡ symbolOf b → x ≡ b

@@ -127,11 +127,11 @@ fn same_letters(word: &[u8], line: &[u8], start: usize) -> bool
     same_symbols(word, line, i, j)
 }
 
-// Two bytes in one number.
+// Two bytes in one number, the first one low: as they are read from memory at once.
 fn pair_of(a: u8, b: u8) -> u32
-    ensures { λ r. ⌜ r ≡ a * 256 + b ⌝ }
+    ensures { λ r. ⌜ r ≡ a + b * 256 ⌝ }
 {
-    a as u32 * PAST_BYTES + b as u32
+    a as u32 + b as u32 * PAST_BYTES
 }
 
 // Do two bytes of the word meet two of the line? They are compared at once.
