@@ -2,14 +2,15 @@
 //! is, and what becomes of a search in a full list. `bench/compare` builds both
 //! sides and this program.
 //!
-//! Usage: compare [--rounds N] [--count before|now]
+//! Usage: compare [--rounds N] [--count FUNCTION]
 //!
 //! Before a clock starts, both sides have to answer alike: on all pairs that
 //! are measured, and on pairs of short texts of any bytes. Then they go in turn
 //! over the same pairs, and each goes first in every other round. A ratio is
 //! the time now over the time before, as the median of the rounds' ratios.
 //!
-//! With --count one side goes once over the mix, for callgrind to count.
+//! With --count one function of one side goes once over fewer of the same, for
+//! callgrind to count.
 
 use std::collections::BTreeMap;
 use std::hint::black_box;
@@ -35,8 +36,9 @@ extern "C" {
 
 /// How many pairs of the mix, and of each kind by itself, are compared.
 const PAIRS: usize = 1_000_000;
-/// How many of the mix are compared where callgrind counts.
+/// How many pairs, and how many words, are done where callgrind counts.
 const COUNTED: usize = 100_000;
+const COUNTED_WORDS: usize = 200;
 /// How many pairs of any bytes both sides have to answer alike.
 const HOSTILE: usize = 4_000_000;
 /// The bytes of a full list, and how many words are looked up in it.
@@ -291,6 +293,13 @@ fn full_list(rng: &mut Rng) -> Vec<u8> {
     text
 }
 
+/// The full list, and words that hardly ever stand in it.
+fn list_and_words(count: usize) -> (Vec<u8>, Vec<Vec<u8>>) {
+    let mut rng = Rng(8_192);
+    let text = full_list(&mut rng);
+    (text, (0..count).map(|_| rng.word()).collect())
+}
+
 /// Times both sides in turn: the median of the ratios, and each side's best
 /// seconds.
 fn measure(
@@ -328,6 +337,11 @@ fn show(name: &str, units: usize, (ratio, before, now): (f64, f64, f64)) {
     println!("{:>5.2}  {:<42} {:>9.1} {:>9.1}", ratio, name, before, now);
 }
 
+/// No comparison, for the time that the loop takes by itself.
+extern "C" fn nothing(_: *const u8, _: usize, _: *const u8, _: usize) -> bool {
+    false
+}
+
 fn main() {
     let mut rounds = 41;
     let mut arguments = std::env::args().skip(1);
@@ -335,8 +349,12 @@ fn main() {
         let value = arguments.next().expect("each option has a value");
         match (name.as_str(), value.as_str()) {
             ("--rounds", _) => rounds = value.parse().expect("a number of rounds"),
-            ("--count", "before") => return count(before_compared),
-            ("--count", "now") => return count(now_compared),
+            ("--count", "before_compared") => return count_pairs(before_compared),
+            ("--count", "now_compared") => return count_pairs(now_compared),
+            ("--count", "before_searched") => return count_words(before_searched),
+            ("--count", "now_searched") => return count_words(now_searched),
+            ("--count", "before_looked_up") => return count_words(before_looked_up),
+            ("--count", "now_looked_up") => return count_words(now_looked_up),
             _ => panic!("{} {} isn't known", name, value),
         }
     }
@@ -350,14 +368,18 @@ fn main() {
         let mut before = || pairs.count(before_compared);
         let mut now = || pairs.count(now_compared);
         show(name, PAIRS, measure(rounds, &mut before, &mut now));
+        pairs
     };
-    over("the mix", None);
+    let mix = over("the mix", None);
+    let mut alone = || mix.count(black_box(nothing));
+    let mut again = || mix.count(black_box(nothing));
+    let found = measure(rounds, &mut alone, &mut again);
+    show("the loop by itself", PAIRS, found);
     for (kind, share, name) in MIX {
         over(&format!("{:>3} of {}: {}", share, OUT_OF, name), Some(kind));
     }
     println!("the same a word, in a list of {} bytes", FULL);
-    let text = full_list(&mut rng);
-    let words: Vec<Vec<u8>> = (0..WORDS).map(|_| rng.word()).collect();
+    let (text, words) = list_and_words(WORDS);
     for (name, before, now) in [
         ("searched", before_searched as Found, now_searched as Found),
         (
@@ -380,9 +402,17 @@ fn main() {
     }
 }
 
-/// One side over the first pairs of the mix.
-fn count(side: Compared) {
+/// One side over pairs of the mix.
+fn count_pairs(side: Compared) {
     let pairs = Pairs::made(&mut Rng(1_983), COUNTED, None);
     black_box(pairs.count(side));
-    println!("{} pairs counted", COUNTED);
+    println!("{} counted", COUNTED);
+}
+
+/// One side over words in the full list.
+fn count_words(side: Found) {
+    let (text, words) = list_and_words(COUNTED_WORDS);
+    let found = words.iter().map(|word| find(side, word, &text));
+    black_box(found.sum::<usize>());
+    println!("{} counted", COUNTED_WORDS);
 }
