@@ -106,3 +106,6 @@ other-not b s = rw s
 
 pub other-if : (b : ℕ) {y : ℕ} → small b ≡ false → y ≡ symbolOf b → not (eqb y 0) ≡ (not (small b) && not (eqb (symbolOf b) 0))
 other-if b s e = rw (s, e)
+
+pub letters-most : (b : ℕ) {n : ℕ} → n ≡ cond (small b) 1 0 → n ≤ 1
+letters-most b e = chosen-most (small b) 1 e

@@ -3,11 +3,11 @@ use borrow.Author.Needs.{needs}
 use Prim.Native.Nat.{_-_}
 use mathlib.Core.Path.{_≡_, sym, _∙_}
 use native.Mathlib.Omega.{arith}
-use lib.ListN.{length, getD, drop}
-use Rattle.words.specs.Symbols.{small, symbolsOf}
+use lib.ListN.{length, drop}
+use Rattle.words.specs.Symbols.{symbolsOf}
 use Rattle.words.specs.Words.{wordSymbols}
 use Rattle.base.specs.Tests.{sameList}
-use Rattle.lookup.proofs.Letters.{chosen-most}
+use Rattle.lookup.proofs.Letters.{letters-most}
 use Rattle.lookup.proofs.Compare as law
 use Rattle.lookup.proofs.same_letters.Statement.{statement}
 use Rattle.lookup.proofs.same_letters.Tie as tie
@@ -35,10 +35,7 @@ returns-3 c =
     ∙ law.letters-part _ _ _ _ (t .before .loop-test .taken) (t .if1 .left) (sym (c .before .parts .ensures) ∙ c .if3 .taken))
 
 add-i : tie.Need-add-i Inv-loop μ-loop
-add-i c =
-    let t = c .before .before .before .before .before .before .before .before .before .before in
-    let s = t .before .before .before .before in
-    omega (arith, t .loop-test .taken, chosen-most (small (getD (s .args .line .now) (t .before .loop .j) 0)) 1 (c .letters-in .ensures))
+add-i c = omega (arith, c .before .before .before .before .before .before .before .before .before .before .loop-test .taken, letters-most _ (c .letters-in .ensures))
 
 loop-again : tie.Need-loop-again Inv-loop μ-loop
 loop-again c =
