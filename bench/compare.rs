@@ -13,7 +13,6 @@
 //! callgrind to count.
 
 use std::collections::BTreeMap;
-use std::hint::black_box;
 use std::time::Instant;
 
 type Compared = unsafe extern "C" fn(*const u8, usize, *const u8, usize) -> bool;
@@ -274,6 +273,11 @@ fn find(side: Found, word: &[u8], text: &[u8]) -> usize {
     unsafe { side(word.as_ptr(), word.len(), text.as_ptr(), text.len()) }
 }
 
+/// Adds up where a side finds the words' lines.
+fn sum(side: Found, words: &[Vec<u8>], text: &[u8]) -> usize {
+    words.iter().map(|word| find(side, word, text)).sum()
+}
+
 /// A good list of exactly `FULL` bytes. Its last line sorts behind the others,
 /// which begin with no z, and makes the sum right.
 fn full_list(rng: &mut Rng) -> Vec<u8> {
@@ -309,7 +313,7 @@ fn measure(
 ) -> (f64, f64, f64) {
     let clock = |work: &mut dyn FnMut() -> usize| {
         let start = Instant::now();
-        let sum = black_box(work());
+        let sum = work();
         (start.elapsed().as_secs_f64(), sum)
     };
     let mut ratios = Vec::new();
@@ -371,48 +375,37 @@ fn main() {
         pairs
     };
     let mix = over("the mix", None);
-    let mut alone = || mix.count(black_box(nothing));
-    let mut again = || mix.count(black_box(nothing));
-    let found = measure(rounds, &mut alone, &mut again);
+    // SAFETY: it is read where it stands; the compiler isn't to know which it is.
+    let nothing = unsafe { std::ptr::read_volatile(&(nothing as Compared)) };
+    let (mut one, mut other) = (|| mix.count(nothing), || mix.count(nothing));
+    let found = measure(rounds, &mut one, &mut other);
     show("the loop by itself", PAIRS, found);
     for (kind, share, name) in MIX {
         over(&format!("{:>3} of {}: {}", share, OUT_OF, name), Some(kind));
     }
     println!("the same a word, in a list of {} bytes", FULL);
     let (text, words) = list_and_words(WORDS);
-    for (name, before, now) in [
-        ("searched", before_searched as Found, now_searched as Found),
-        (
-            "judged and searched",
-            before_looked_up as Found,
-            now_looked_up as Found,
-        ),
-    ] {
-        let sum = |side: Found| {
-            words
-                .iter()
-                .map(|word| find(side, word, &text))
-                .sum::<usize>()
-        };
-        show(
-            name,
-            WORDS,
-            measure(rounds, &mut || sum(before), &mut || sum(now)),
-        );
+    let searches: [(&str, Found, Found); 2] = [
+        ("searched", before_searched, now_searched),
+        ("judged and searched", before_looked_up, now_looked_up),
+    ];
+    for (name, before, now) in searches {
+        let mut old = || sum(before, &words, &text);
+        let mut new = || sum(now, &words, &text);
+        show(name, WORDS, measure(rounds, &mut old, &mut new));
     }
 }
 
 /// One side over pairs of the mix.
 fn count_pairs(side: Compared) {
     let pairs = Pairs::made(&mut Rng(1_983), COUNTED, None);
-    black_box(pairs.count(side));
+    pairs.count(side);
     println!("{} counted", COUNTED);
 }
 
 /// One side over words in the full list.
 fn count_words(side: Found) {
     let (text, words) = list_and_words(COUNTED_WORDS);
-    let found = words.iter().map(|word| find(side, word, &text));
-    black_box(found.sum::<usize>());
+    sum(side, &words, &text);
     println!("{} counted", COUNTED_WORDS);
 }
