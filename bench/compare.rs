@@ -227,16 +227,20 @@ impl Pairs {
         pairs
     }
 
-    /// Short texts of letters, hyphens, dots and other bytes: most pairs are
-    /// nothing that a list or a word can be.
+    /// Short texts of a few bytes, with letters, hyphens and dots among them, or
+    /// of any: most pairs are nothing that a list or a word can be.
     fn hostile(rng: &mut Rng, count: usize) -> Pairs {
         let bytes = b"abzABZ--..\n'`{@[\x0d\x0e\x4d\x6d\x00\x80\xc1\xe1\xff";
         let mut pairs = Pairs::new();
         for _ in 0..count {
-            let few = 2 + rng.below(bytes.len() - 1);
+            let (few, any) = (2 + rng.below(bytes.len() - 1), rng.once_in(4));
+            let byte = |rng: &mut Rng| match any {
+                true => rng.below(256) as u8,
+                false => bytes[rng.below(few)],
+            };
             let text = |rng: &mut Rng| -> Vec<u8> {
                 let size = rng.below(7);
-                (0..size).map(|_| bytes[rng.below(few)]).collect()
+                (0..size).map(|_| byte(rng)).collect()
             };
             let (word, line) = (text(rng), text(rng));
             pairs.push(&word, &line);
