@@ -59,12 +59,12 @@ module _ (w : List ℕ) (i : ℕ) (l : List ℕ) (j : ℕ) (h : i < length w) (k
     some : symbolOf (getD l j 0) ≡ 0 → ⊥
     some = eqb-false (symbolOf (getD l j 0)) 0 (small-symbol (getD l j 0) s)
 
-    pub letter-differs : eqb (lower (getD w i 0)) (getD l j 0) ≡ false → sameFrom w i l j ≡ false
+    letter-differs : eqb (lower (getD w i 0)) (getD l j 0) ≡ false → sameFrom w i l j ≡ false
     letter-differs d =
         same-differs w i l j k refl some h refl refl
         (λ e. eqb-false (lower (getD w i 0)) (getD l j 0) d (one-letter (lower (getD w i 0)) (getD l j 0) s e))
 
-    pub letter-agrees : eqb (lower (getD w i 0)) (getD l j 0) ≡ true → sameFrom w i l j ≡ sameFrom w (i + 1) l (j + 1)
+    letter-agrees : eqb (lower (getD w i 0)) (getD l j 0) ≡ true → sameFrom w i l j ≡ sameFrom w (i + 1) l (j + 1)
     letter-agrees d = same-agrees w i l j k refl some h refl refl (ap symbolOf (eqb-true (lower (getD w i 0)) (getD l j 0) d))
 
   pub letters-part : (small (getD l j 0) && not (eqb (lower (getD w i 0)) (getD l j 0))) ≡ true → sameFrom w i l j ≡ false

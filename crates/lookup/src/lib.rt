@@ -51,8 +51,8 @@ fn met_by(a: u8, b: u8) -> u32
     0
 }
 
-// Is b a letter, and the word's byte a another one? As two tests this would be two branches, one of them decided by where the hyphens
-// stand, which no processor foresees; as a test of one number it is one.
+// Is b, a byte of the line, a letter that the word's byte a isn't? Two tests would be two branches, one of them decided by where the
+// hyphens stand, which no processor foresees; a test of one number is one.
 fn parts(a: u8, b: u8) -> bool
     ensures { λ r. ⌜ r ≡ (small b && not (eqb (lower a) b)) ⌝ }
 {
