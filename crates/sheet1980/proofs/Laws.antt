@@ -54,17 +54,18 @@ write-start word sheet h =
 
 pub write-turn : (word sheet : List ℕ) (i : ℕ) → i < length word → Written word sheet i → Written word (set sheet (i + 1) (getD word i 0 % 32)) (i + 1)
 write-turn word sheet i h w =
-    record
-    { within = omega arith
-    ; size = length-set sheet (i + 1) b ∙ w .size
-    ; letters = ap (λ k. take k (set sheet (i + 1) b)) (add-one (i + 1))
-        ∙ take-suc-set sheet (i + 1) b (omega (arith, w .size))
-        ∙ ap (λ (l : List ℕ). l ++ (b ∷ [])) (w .letters)
-        ∙ ap (λ (l : List ℕ). 0 ∷ l) (sym (map-append five (take i word) (getD word i 0 ∷ [])) ∙ ap (λ (l : List ℕ). map five l) (sym more))
+    record {
+      within = omega arith;
+      size = length-set sheet (i + 1) b ∙ w .size;
+      letters = ap (λ k. take k (set sheet (i + 1) b)) (add-one (i + 1))
+          ∙ take-suc-set sheet (i + 1) b (omega (arith, w .size))
+          ∙ ap (λ (l : List ℕ). l ++ (b ∷ [])) (w .letters)
+          ∙ ap (λ (l : List ℕ). 0 ∷ l) (sym (map-append five (take i word) (getD word i 0 ∷ [])) ∙ ap (λ (l : List ℕ). map five l) (sym more));
     }
   where
     b : ℕ
     b = five (getD word i 0)
+
     more : take (i + 1) word ≡ take i word ++ (getD word i 0 ∷ [])
     more = ap (λ k. take k word) (add-one i) ∙ take-suc word i 0 h
 

@@ -80,6 +80,7 @@ clear-sheet {n} {sheet} j s =
     none : (k : ℕ) → u + n < k → (mem (clear sheet j) k ≡ mem sheet k) ⊎ (mem (clear sheet j) k ≡ 0) → mem (clear sheet j) k ≡ 0
     none k h (inl e) = e ∙ s .past k h
     none k h (inr e) = e
+
     small : (k : ℕ) → (mem (clear sheet j) k ≡ mem sheet k) ⊎ (mem (clear sheet j) k ≡ 0) → mem (clear sheet j) k ≤ 26
     small k (inl e) = omega (arith, e, s .codes k)
     small k (inr e) = omega (arith, e)
