@@ -56,6 +56,21 @@ packRoom = 59398
 abbrev pub widthCount : ℕ
 widthCount = 26
 
+-- CR 4: words "are judged as before (5, 2, 4, 3)", and the 1980 machine keeps these two where the word limit and the room size move.
+abbrev pub wordLimit1980 : ℕ
+wordLimit1980 = 63
+
+abbrev pub roomSize1980 : ℕ
+roomSize1980 = 64
+
+-- "those of 1 to 4 letters have no break and execute nothing"
+abbrev pub shortWord1980 : ℕ
+shortWord1980 = 4
+
+-- "A call gets a budget of 20,000 instructions".
+abbrev pub budget1980 : ℕ
+budget1980 = 20000
+
 -- Ground 6: "list (1 customer, 2 house)".
 abbrev pub customerList : ℕ
 customerList = 1

@@ -26,3 +26,7 @@ lookupOrder = 2 ∷ 4 ∷ 3 ∷ 8 ∷ 8 ∷ 6 ∷ 6 ∷ []
 -- CR 2: "refusal 13, after 5, 2, 4, 3"
 abbrev pub fitOrder : List ℕ
 fitOrder = 5 ∷ 2 ∷ 4 ∷ 3 ∷ 13 ∷ []
+
+-- CR 4: "Words are judged as before (5, 2, 4, 3)"
+abbrev pub order1980 : List ℕ
+order1980 = 5 ∷ 2 ∷ 4 ∷ 3 ∷ []

@@ -2,7 +2,7 @@
 ghost use mathlib.Core.Path.{_≡_};
 ghost use Rattle.base.specs.Grounds.{told};
 
-// The limits of document 01. specs/Limits.antt has each of them under the same name, with the sentence that sets it.
+// The limits of documents 01 and 02. specs/Limits.antt has each of them under the same name, with the sentence that sets it.
 pub const WORD_LIMIT: usize = 63;
 
 pub const ROOM_SIZE: usize = 64;
@@ -30,6 +30,15 @@ pub const ENTRY_LIMIT: usize = 2048;
 pub const PACK_ROOM: usize = 59398;
 
 pub const WIDTH_COUNT: usize = 26;
+
+// The 1980 machine's own.
+pub const WORD_LIMIT_1980: usize = 63;
+
+pub const ROOM_SIZE_1980: usize = 64;
+
+pub const SHORT_WORD_1980: usize = 4;
+
+pub const BUDGET_1980: usize = 20000;
 
 // The numbers of the two exception lists.
 pub const CUSTOMER_LIST: usize = 1;

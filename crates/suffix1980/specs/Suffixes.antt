@@ -19,19 +19,22 @@ infinity = 1000000
 abbrev pub edRemoved : ℕ
 edRemoved = 999999
 
--- An instruction word taken apart, by its opcode.
+-- An instruction by its opcode, with the fields that it uses.
+abbrev pub byOpcode : ℕ → ℕ → Instruction
+byOpcode op w =
+    cond (eqb op scan) (Scan (oprand w) (truex w) (falsex w))
+    (cond (eqb op double) (Double (truex w) (falsex w))
+    (cond (eqb op table) (Table (oprand w) (truex w) (falsex w))
+    (cond (eqb op check) (Check (truex w) (falsex w))
+    (cond (eqb op success) (Success (oprand w))
+    (cond (eqb op fail) Fail
+    (cond (eqb op repeat) (Repeat (oprand w))
+    (cond (eqb op again) (Again (truex w))
+    (cond (eqb op mark) (Mark (oprand w) (truex w))
+    (cond (eqb op efail) Efail Confusion)))))))))
+
 unfoldable pub decode : ℕ → Instruction
-decode w =
-    cond (eqb (opcode w) scan) (Scan (oprand w) (truex w) (falsex w))
-    (cond (eqb (opcode w) double) (Double (truex w) (falsex w))
-    (cond (eqb (opcode w) table) (Table (oprand w) (truex w) (falsex w))
-    (cond (eqb (opcode w) check) (Check (truex w) (falsex w))
-    (cond (eqb (opcode w) success) (Success (oprand w))
-    (cond (eqb (opcode w) fail) Fail
-    (cond (eqb (opcode w) repeat) (Repeat (oprand w))
-    (cond (eqb (opcode w) again) (Again (truex w))
-    (cond (eqb (opcode w) mark) (Mark (oprand w) (truex w))
-    (cond (eqb (opcode w) efail) Efail Confusion)))))))))
+decode w = byOpcode (opcode w) w
 
 -- Where the machine stands: at interps with i, pc, firsttime, finale and the sheet, or gone on to phase 3 with finale and the sheet.
 pub data Suffixes : Type 0 where

@@ -4,14 +4,15 @@ use sheet1980::code_at;
 use tables1980::has_bit;
 use tables1980::suffix_word;
 ghost use mathlib.Core.Path.{_≡_};
-ghost use mathlib.Core.Bool.{_&&_};
-ghost use Prim.Native.Nat.{_+_, _-_, _≤_};
+ghost use mathlib.Core.Bool.{cond, not, _&&_, _||_};
+ghost use Prim.Native.Nat.{_+_, _-_, _<_, _≤_};
 ghost use lib.Dec.{eqb};
+ghost use Rattle.base.specs.Limits.{wordLimit1980, shortWord1980};
 ghost use Rattle.tables1980.specs.Words.{o, _ε_};
 ghost use Rattle.tables1980.specs.Suffix.{suffix};
-ghost use Rattle.sheet1980.specs.Sheet.{u, mem, Sheet};
+ghost use Rattle.sheet1980.specs.Sheet.{u, mem, clear, Sheet};
 ghost use Rattle.suffix1980.specs.Suffixes.{decode, finalAt, restarts, marksuf, interps, phase2};
-ghost use Rattle.suffix1980.specs.Joined.{joined, Branched, told};
+ghost use Rattle.suffix1980.specs.Joined.{placeBound, joined, Branched, told};
 
 // An instruction word taken apart: operand, truex and falsex, as far as its opcode uses them.
 pub enum Instruction {
@@ -120,7 +121,7 @@ fn branch(matched: bool, i: usize, truex: u16, falsex: u16, firsttime: bool, fin
 
 // finale at a re-entry.
 fn final_at(i: usize, pc: usize, finale: usize) -> usize
-    requires { ⌜ i ≤ 1000 ⌝ }
+    requires { ⌜ i ≤ placeBound ⌝ }
     ensures { λ r. ⌜ r ≡ finalAt i pc finale ⌝ }
 {
     if pc == LETTER_E as usize {
@@ -134,7 +135,7 @@ fn final_at(i: usize, pc: usize, finale: usize) -> usize
 
 // The first time is over.
 fn restart(i: usize, finale: usize, sheet: &[u8]) -> Turn
-    requires { ⌜ i ≤ 1000 ⌝ }
+    requires { ⌜ i ≤ placeBound ⌝ }
     ensures { λ r. ⌜ joined r (now (sheet .entry)) ≡ restarts i finale (now (sheet .entry)) ⌝ }
 {
     if i < sheet1980::U + 3 {
@@ -152,7 +153,7 @@ fn restart(i: usize, finale: usize, sheet: &[u8]) -> Turn
 
 // A hyphen before the suffix just removed.
 fn mark_suffix(i: usize, finale: usize, sheet: &mut [u8]) -> Turn
-    requires { ⌜ i ≤ 1000 ⌝ }
+    requires { ⌜ i ≤ placeBound ⌝ }
     ensures { λ r. ⌜ joined r (now (sheet .exit)) ≡ marksuf i finale (now (sheet .entry)) ⌝ }
 {
     clear_at(sheet, i + 2);
@@ -161,7 +162,7 @@ fn mark_suffix(i: usize, finale: usize, sheet: &mut [u8]) -> Turn
 
 // Does the word still end in "ed"?
 fn ends_in_ed(n: usize, sheet: &[u8]) -> bool
-    requires { ⌜ n ≤ 1000 ⌝ }
+    requires { ⌜ n ≤ wordLimit1980 ⌝ }
     ensures { λ r. ⌜ r ≡ (eqb (mem (now (sheet .entry)) (u + n)) (o "d") && eqb (mem (now (sheet .entry)) (u + n - 1)) (o "e")) ⌝ }
 {
     if code_at(sheet, sheet1980::U + n) != LETTER_D {
@@ -177,6 +178,34 @@ fn is_in_mask(sheet: &[u8], i: usize, t: u16) -> bool
     has_bit(suffix_word(t as usize), code_at(sheet, i))
 }
 
+// Is the letter at a place like the one before it?
+fn is_double(sheet: &[u8], i: usize) -> bool
+    requires { ⌜ 1 ≤ i ⌝ }
+    ensures { λ r. ⌜ r ≡ eqb (mem (now (sheet .entry)) i) (mem (now (sheet .entry)) (i - 1)) ⌝ }
+{
+    code_at(sheet, i) == code_at(sheet, i - 1)
+}
+
+// Is a hyphen to be marked? With operand 0 the first time only.
+fn is_marked(t: u16, firsttime: bool) -> bool
+    ensures { λ r. ⌜ r ≡ (not (eqb t 0) || firsttime) ⌝ }
+{
+    if t != 0 {
+        return true;
+    }
+    firsttime
+}
+
+// The hyphen of a mark.
+fn mark_letter(t: u16, firsttime: bool, i: usize, sheet: &mut [u8])
+    requires { ⌜ i ≤ placeBound ⌝ }
+    ensures { λ _. ⌜ now (sheet .exit) ≡ cond (not (eqb t 0) || firsttime) (clear (now (sheet .entry)) (i + t + 1)) (now (sheet .entry)) ⌝ }
+{
+    if is_marked(t, firsttime) {
+        clear_at(sheet, i + t as usize + 1);
+    }
+}
+
 // One instruction.
 fn interpret(
     n: usize,
@@ -186,7 +215,7 @@ fn interpret(
     sheet: &mut [u8],
     x: Instruction,
 ) -> Turn
-    requires { ⌜ (5 ≤ n) × (n ≤ 1000) × (1 ≤ i) × (i ≤ 100) ⌝ }
+    requires { ⌜ (shortWord1980 < n) × (n ≤ wordLimit1980) × (1 ≤ i) × (i ≤ u + n) ⌝ }
     ensures { λ r. ⌜ joined r (now (sheet .exit)) ≡ interps n i firsttime finale (now (sheet .entry)) x ⌝ }
 {
     match x {
@@ -195,7 +224,7 @@ fn interpret(
             branch(matched, i, truex, falsex, firsttime, finale)
         }
         Instruction::Double { truex, falsex } => {
-            let matched = code_at(sheet, i) == code_at(sheet, i - 1);
+            let matched = is_double(sheet, i);
             branch(matched, i, truex, falsex, firsttime, finale)
         }
         Instruction::Table { t, truex, falsex } => {
@@ -236,9 +265,7 @@ fn interpret(
             }
         }
         Instruction::Mark { t, truex } => {
-            if t != 0 || firsttime {
-                clear_at(sheet, i + t as usize + 1);
-            }
+            mark_letter(t, firsttime, i, sheet);
             Turn::Row {
                 i,
                 pc: truex as usize,
@@ -258,7 +285,7 @@ fn interpret(
 
 // Removes the suffixes of a word of n letters, each word fetched taking one instruction of the budget.
 pub fn remove_suffixes(budget: usize, n: usize, sheet: &mut [u8]) -> Ran
-    requires { ⌜ (5 ≤ n) × (n ≤ 63) × Sheet n (now sheet) ⌝ }
+    requires { ⌜ (shortWord1980 < n) × (n ≤ wordLimit1980) × Sheet n (now sheet) ⌝ }
     ensures { λ r. ⌜ told r (now (sheet .exit)) ≡ phase2 budget n (now (sheet .entry)) ⌝ }
 {
     let mut left = budget;
