@@ -13,6 +13,10 @@ use Rattle.tables1980.specs.Suffix.{suffix}
 abbrev pub u : ℕ
 u = 16
 
+-- More than any place of a sheet with an operand of sixteen bits added: up to here no sum is too large for the code.
+abbrev pub placeBound : ℕ
+placeBound = 70000
+
 -- "The word's sheet is places 0 to n + 1": the codes of the letters, the last five bits of each, between two null codes.
 unfoldable pub sheetOf : List ℕ → List ℕ
 sheetOf word = 0 ∷ (map (λ b. b % 32) word ++ (0 ∷ []))

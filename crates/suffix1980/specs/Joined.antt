@@ -9,10 +9,6 @@ use Rattle.suffix1980.specs.declared.Turn.the-variants.{Row, Done}
 use Rattle.suffix1980.specs.declared.Ran.{Ran}
 use Rattle.suffix1980.specs.declared.Ran.the-variants as ran
 
--- More than any place of a sheet with an operand of sixteen bits added: up to here no sum is too large for the code.
-abbrev pub placeBound : ℕ
-placeBound = 70000
-
 abbrev pub joined : Turn → List ℕ → Suffixes
 joined (Row i pc firsttime finale) sheet = Interps i pc firsttime finale sheet
 joined (Done finale) sheet = Phase3 finale sheet

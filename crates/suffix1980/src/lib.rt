@@ -10,9 +10,9 @@ ghost use lib.Dec.{eqb};
 ghost use Rattle.base.specs.Limits.{wordLimit1980, shortWord1980};
 ghost use Rattle.tables1980.specs.Words.{o, _ε_};
 ghost use Rattle.tables1980.specs.Suffix.{suffix};
-ghost use Rattle.sheet1980.specs.Sheet.{u, mem, clear, Sheet};
+ghost use Rattle.sheet1980.specs.Sheet.{u, placeBound, mem, clear, Sheet};
 ghost use Rattle.suffix1980.specs.Suffixes.{decode, finalAt, restarts, marksuf, interps, phase2};
-ghost use Rattle.suffix1980.specs.Joined.{placeBound, joined, Branched, told};
+ghost use Rattle.suffix1980.specs.Joined.{joined, Branched, told};
 
 // An instruction word taken apart: operand, truex and falsex, as far as its opcode uses them.
 pub enum Instruction {

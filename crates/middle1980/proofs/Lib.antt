@@ -1,0 +1,4 @@
+pub mod Ends
+pub mod Aspirates
+pub mod Laws
+pub mod Going
