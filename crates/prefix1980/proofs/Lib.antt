@@ -1,2 +1,4 @@
 pub mod Rows
 pub mod Ends
+pub mod Laws
+pub mod Going
