@@ -11,6 +11,7 @@ use lib.ListN.{length, getD, take, drop, set, replicate, length-set}
 use lib.Seq.{paste, getD-set-same, getD-set-other}
 use Rattle.base.specs.Limits.{roomSize, wordLimit}
 use Rattle.rooms.specs.Rooms.{sheetFrom, sheet, written, bit}
+use Rattle.rooms.proofs.Marks.{put-start, put-turn, put-end, put-cleared}
 use Rattle.rooms.proofs.Sheets.{sheet-same, written-length, written-low, written-high, written-again, written-is, set-written}
 use Rattle.rooms.proofs.Laws.{copied-sheet}
 use Rattle.words.specs.Symbols.{hyphen}
@@ -114,31 +115,12 @@ module _ (left right n : ℕ) (levels : List ℕ) where
   below i j = bit (ltb j i && levelBreak left right n (λ k. getD levels k 0) j)
 
   -- none stands left of the left margin
-  below-left : (j : ℕ) → 0 ≡ below left j
-  below-left j = go (ltb j left) refl
-    where
-      go : (z : Bool) → ltb j left ≡ z → 0 ≡ bit (z && broken j)
-      go true p = rw (break-left left right n (λ k. getD levels k 0) j (ltb-true j left p))
-      go false p = refl
-
   pub breaks-start : (d room : List ℕ) → room ≡ written roomSize (sheet roomSize (λ j. 0)) d → room ≡ written roomSize (sheet roomSize (below left)) room
-  breaks-start d room e =
-      e ∙ sym (written-again roomSize (λ j. 0) d (sheet roomSize (λ j. 0))) ∙ ap (λ (l : List ℕ). written roomSize (sheet roomSize (λ j. 0)) l) (sym e)
-      ∙ ap (λ (l : List ℕ). written roomSize l room) (sheet-same roomSize _ _ (λ j k. below-left j))
+  breaks-start d room e = put-start roomSize broken left d room (λ j h. break-left left right n (λ k. getD levels k 0) j h) e
 
   pub breaks-turn : (i : ℕ) (d : List ℕ) {room : List ℕ} {x : ℕ} → room ≡ written roomSize (sheet roomSize (below i)) d → roomSize ≤ length d → i < roomSize → x ≡ bit (levelBreak left right n (λ k. getD levels k 0) i)
       → set room i x ≡ written roomSize (sheet roomSize (below (i + 1))) d
-  breaks-turn i d {x = x} e large h q = rw e (set-written roomSize (below i) (below (i + 1)) d i x large h (q ∙ here) same)
-    where
-      here : bit (broken i) ≡ below (i + 1) i
-      here = rw (lt-ltb i (i + 1) (omega arith))
-
-      same : (j : ℕ) → j < roomSize → (j ≡ i → ⊥) → below i j ≡ below (i + 1) j
-      same j k p = go (decLt j i)
-        where
-          go : Dec (j < i) → bit (ltb j i && broken j) ≡ bit (ltb j (i + 1) && broken j)
-          go (yes l) = rw (lt-ltb j i l, lt-ltb j (i + 1) (omega arith))
-          go (no l) = rw (le-ltb j i (omega arith), le-ltb j (i + 1) (omega arith))
+  breaks-turn i d e large h q = put-turn roomSize broken i d e large h q
 
   -- none stands right of the right margin
   none : (j : ℕ) → n < j + right → Dec (j < n) → broken j ≡ false
@@ -146,16 +128,11 @@ module _ (left right n : ℕ) (levels : List ℕ) where
   none j h (no k) = break-outer left right n (λ k. getD levels k 0) j (omega arith)
 
   pub breaks-end : (i : ℕ) (d : List ℕ) {room : List ℕ} → room ≡ written roomSize (sheet roomSize (below i)) d → n < i + right → room ≡ written roomSize (sheet roomSize (λ j. bit (levelBreak left right n (λ k. getD levels k 0) j))) d
-  breaks-end i d e h = e ∙ ap (λ (l : List ℕ). written roomSize l d) (sheet-same roomSize _ _ (λ j k. go j (ltb j i) refl))
-    where
-      go : (j : ℕ) (z : Bool) → ltb j i ≡ z → bit (z && broken j) ≡ bit (broken j)
-      go j true p = refl
-      go j false p = rw (none j (omega (arith, ltb-false j i p)) (decLt j n))
+  breaks-end i d e h = put-end roomSize broken i d (λ j l. none j (omega arith) (decLt j n)) e
 
-  -- what the room was before it was cleared doesn't matter
   pub breaks-cleared : {room after : List ℕ} (d : List ℕ) → room ≡ written roomSize (sheet roomSize (λ j. 0)) d
       → after ≡ written roomSize (sheet roomSize (λ j. bit (levelBreak left right n (λ k. getD levels k 0) j))) room → after ≡ written roomSize (sheet roomSize (λ j. bit (levelBreak left right n (λ k. getD levels k 0) j))) d
-  breaks-cleared d e f = f ∙ rw e (written-again roomSize (λ j. 0) d (sheet roomSize (λ j. bit (broken j))))
+  breaks-cleared d e f = put-cleared roomSize broken d e f
 
 -- a line marked, byte by byte; `next` is the recursive call
 module _ (counts : ℕ → Bool) where

@@ -1,4 +1,5 @@
 pub mod Rows
 pub mod Ends
+pub mod Budget
 pub mod Laws
 pub mod Going

@@ -41,6 +41,9 @@ stopped budget n whole left finale sheet e g = sym (g .rest ∙ ap (λ (x : Turn
     all zero = refl
     all (suc k) = refl
 
+pub kept : (budget n : ℕ) (whole : List ℕ) (left finale : ℕ) (sheet : List ℕ) {turn : Turn} → turn ≡ Done finale → Going budget n whole left turn sheet → Sheet n sheet
+kept budget n whole left finale sheet e g = subst (λ (x : Turn). Fine n (g .bound) (joined x sheet)) e (g .fine) .0
+
 pub out : (budget n : ℕ) (whole : List ℕ) (left i pc : ℕ) (firsttime : Bool) (finale : ℕ) (sheet : List ℕ) {turn : Turn} → turn ≡ Row i pc firsttime finale → left ≡ 0 → Going budget n whole left turn sheet → RanOut ≡ phase2 budget n whole
 unfolding suffixes
 out budget n whole left i pc firsttime finale sheet e h g = sym (g .rest ∙ ap (λ (x : Turn). suffixes left n (joined x sheet)) e ∙ ap (λ k. suffixes k n (Interps i pc firsttime finale sheet)) h)

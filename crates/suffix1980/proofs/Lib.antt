@@ -1,5 +1,6 @@
 pub mod Rows
 pub mod Ends
+pub mod Budget
 pub mod Masks
 pub mod Laws
 pub mod Going

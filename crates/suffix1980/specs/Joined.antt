@@ -3,6 +3,7 @@ use Prim.Native.Nat.{ℕ, _-_}
 use mathlib.Core.Bool.{Bool, cond}
 use mathlib.Core.List.{List}
 use mathlib.Core.Path.{_≡_}
+use Rattle.sheet1980.specs.Sheet.{Sheet}
 use Rattle.suffix1980.specs.Suffixes.{Suffixes, Interps, Phase3, Suffixed, RanOut, Stopped}
 use Rattle.suffix1980.specs.declared.Turn.{Turn}
 use Rattle.suffix1980.specs.declared.Turn.the-variants.{Row, Done}
@@ -21,3 +22,8 @@ Branched matched i truex falsex firsttime finale r =
 abbrev pub told : Ran → List ℕ → Suffixed
 told ran.Out sheet = RanOut
 told (ran.Stopped left finale) sheet = Stopped left finale sheet
+
+-- What phase 3 asks of the sheet.
+abbrev pub Ready : ℕ → Ran → List ℕ → Type 0
+Ready n ran.Out sheet = Unit {0}
+Ready n (ran.Stopped left finale) sheet = Sheet n sheet

@@ -12,7 +12,7 @@ ghost use Rattle.tables1980.specs.Words.{o, _ε_};
 ghost use Rattle.tables1980.specs.Suffix.{suffix};
 ghost use Rattle.sheet1980.specs.Sheet.{u, placeBound, mem, clear, Sheet};
 ghost use Rattle.suffix1980.specs.Suffixes.{decode, finalAt, restarts, marksuf, interps, phase2};
-ghost use Rattle.suffix1980.specs.Joined.{joined, Branched, told};
+ghost use Rattle.suffix1980.specs.Joined.{joined, Branched, told, Ready};
 
 // An instruction word taken apart: operand, truex and falsex, as far as its opcode uses them.
 pub enum Instruction {
@@ -286,7 +286,8 @@ fn interpret(
 // Removes the suffixes of a word of n letters, each word fetched taking one instruction of the budget.
 pub fn remove_suffixes(budget: usize, n: usize, sheet: &mut [u8]) -> Ran
     requires { ⌜ (shortWord1980 < n) × (n ≤ wordLimit1980) × Sheet n (now sheet) ⌝ }
-    ensures { λ r. ⌜ told r (now (sheet .exit)) ≡ phase2 budget n (now (sheet .entry)) ⌝ }
+    ensures answer { λ r. ⌜ told r (now (sheet .exit)) ≡ phase2 budget n (now (sheet .entry)) ⌝ }
+    ensures kept { λ r. ⌜ Ready n r (now (sheet .exit)) ⌝ }
 {
     let mut left = budget;
     let at = sheet1980::U + n - 1;

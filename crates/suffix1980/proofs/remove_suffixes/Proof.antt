@@ -1,7 +1,7 @@
 use borrow.Author.Needs.{needs}
 use mathlib.Core.Path.{_≡_, refl}
 use lib.ListN.{length}
-use Rattle.suffix1980.proofs.Going.{Going, start, stopped, out, low, high, turned}
+use Rattle.suffix1980.proofs.Going.{Going, start, stopped, kept, out, low, high, turned}
 use Rattle.suffix1980.proofs.remove_suffixes.Statement.{statement}
 use Rattle.suffix1980.proofs.remove_suffixes.Tie as tie
 use Rattle.suffix1980.proofs.remove_suffixes.Reads as reads
@@ -61,7 +61,8 @@ returns : tie.Need-returns Inv-loop μ-loop
 returns c =
     let k = c .before .before .before .before .before .before .before .before .args in
     let l = c .before .before .before .loop in
-    stopped (k .budget) (k .n) (k .sheet .now) (l .left) _ (l .sheet) (c .before .turn .given .1) (l .inv .0)
+    let e = c .before .turn .given .1 in
+    (stopped (k .budget) (k .n) (k .sheet .now) (l .left) _ (l .sheet) e (l .inv .0), kept (k .budget) (k .n) (k .sheet .now) (l .left) _ (l .sheet) e (l .inv .0))
 
 -- src/lib.rt:299:17
 enum-known-turn-2 : tie.Need-enum-known-turn-2 Inv-loop μ-loop
@@ -76,7 +77,7 @@ returns-2 : tie.Need-returns-2 Inv-loop μ-loop
 returns-2 c =
     let k = c .before .before .before .before .before .before .before .before .before .args in
     let l = c .before .before .before .before .loop in
-    out (k .budget) (k .n) (k .sheet .now) (l .left) _ _ _ _ (l .sheet) (c .before .before .turn2 .given .1) (c .if1 .taken) (l .inv .0)
+    (out (k .budget) (k .n) (k .sheet .now) (l .left) _ _ _ _ (l .sheet) (c .before .before .turn2 .given .1) (c .if1 .taken) (l .inv .0), tt)
 
 -- src/lib.rt:307:17
 sub-left : tie.Need-sub-left Inv-loop μ-loop

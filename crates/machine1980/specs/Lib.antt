@@ -1,0 +1,4 @@
+pub mod Run
+pub mod Breaks
+pub mod Calls
+pub mod Post
