@@ -126,7 +126,7 @@ taken n finale s room = written-take roomSize1980 (λ g. bit (isBreak n finale s
 
 -- a word of more than four letters, by what its machines come to
 module _ (budget : ℕ) (word : List ℕ) (room : List ℕ) (long : shortWord1980 < length word) where
-  ran : machine budget word ≡ run budget (length word) (sheetOf word)
+  pub ran : machine budget word ≡ run budget (length word) (sheetOf word)
   unfolding machine
   ran = rw (lt-leb (length word) shortWord1980 long)
 
@@ -167,6 +167,9 @@ no-breaks n finale s h = sheet-same roomSize1980 _ _ (λ g k. ap bit (none g (lt
     none g true p = break-before n finale s g (ltb-true g 2 p)
     none g false p = break-past n finale s g (omega (arith, ltb-false g 2 p))
 
+pub no-marks-short : (n finale : ℕ) (s : List ℕ) → n ≤ shortWord1980 → nonzero (breakSheet n finale s) ≡ 0
+no-marks-short n finale s h = ap nonzero (no-breaks n finale s h) ∙ no-marks
+
 pub short-machine : (budget : ℕ) (word : List ℕ) → length word ≤ shortWord1980 → machine budget word ≡ Marked infinity (sheetOf word) 0
 unfolding machine
 short-machine budget word h = rw (le-leb (length word) shortWord1980 h)
@@ -178,6 +181,6 @@ short-answered budget word room h a =
     let b = no-breaks (length word) infinity (sheetOf word) h in
     let q = sym (short-machine budget word h) in
     record {
-      answered = ap (λ k. Finds (0 ∷ k ∷ 0 ∷ [])) (sym (ap nonzero b ∙ no-marks)) ∙ ap (λ (o : Outcome). Finds (valuesOf (length word) o)) q;
+      answered = ap (λ k. Finds (0 ∷ k ∷ 0 ∷ [])) (sym (no-marks-short (length word) infinity (sheetOf word) h)) ∙ ap (λ (o : Outcome). Finds (valuesOf (length word) o)) q;
       memory = a ∙ ap (λ (l : List ℕ). written roomSize1980 l room) (sym b) ∙ ap (λ (o : Outcome). leftBy (length word) o room) q;
     }

@@ -1,3 +1,5 @@
 pub mod Written
 pub mod Order
 pub mod Laws
+pub mod Budgets
+pub mod Theorems
