@@ -105,6 +105,7 @@ module _ (word : List ℕ) (judged : judgeWord wordLimit1980 word ≡ Fine) wher
     where
       most : ℕ
       most = mostExecuted (length word)
+
       go : (z : Bool) → leb (length word) shortWord1980 ≡ z
           → cond z (Marked infinity (sheetOf word) 0) (run budget (length word) (sheetOf word)) ≡ cond z (Marked infinity (sheetOf word) 0) (run (32 * length word + 8) (length word) (sheetOf word))
       go true p = refl
