@@ -2,7 +2,7 @@
 use Prim.Native.Nat.{ℕ, _-_, _<_}
 use mathlib.Core.Path.{_≡_}
 use native.Mathlib.Omega.{arith}
-use Rattle.tteolmigu.specs.Bits.{toldBits, foundBits, lineBits, fittingBits, bitsAt, numberIn, listIn, placeIn, marksIn, looksIn, sizeIn, offsetIn, lengthIn, outcomeIn, gapIn}
+use Rattle.tteolmigu.specs.Bits.{toldBits, foundBits, lineBits, fittingBits, bitsAt, numberIn, listIn, placeIn, marksIn, looksIn, sizeIn, offsetIn, lengthIn, outcomeIn, gapIn, reprintBits, ranOutIn, breaksIn, executedIn}
 
 module _ (number list place : ℕ) (n : number < 256) (l : list < 256) (p : place < 281474976710656) where
   pub told-number : numberIn (toldBits number list place) ≡ number
@@ -53,3 +53,16 @@ module _ (outcome gap : ℕ) (o : outcome < 256) (g : gap < 4294967296) where
 
   pub fitting-gap : gapIn (fittingBits outcome gap) ≡ gap
   fitting-gap = omega arith
+
+module _ (outcome breaks executed : ℕ) (o : outcome < 2) (b : breaks < 65536) (e : executed < 4294967296) where
+  pub reprint-number : numberIn (reprintBits outcome breaks executed) ≡ 0
+  reprint-number = omega arith
+
+  pub reprint-ran-out : ranOutIn (reprintBits outcome breaks executed) ≡ outcome
+  reprint-ran-out = omega arith
+
+  pub reprint-breaks : breaksIn (reprintBits outcome breaks executed) ≡ breaks
+  reprint-breaks = omega arith
+
+  pub reprint-executed : executedIn (reprintBits outcome breaks executed) ≡ executed
+  reprint-executed = omega arith

@@ -60,6 +60,14 @@ abbrev pub fitBits : Said → ℕ
 fitBits (Finds values) = fittingBits (getD values 0 0) (getD values 1 0)
 fitBits (Refuses t) = toldBits (t .number) (t .list) (t .place)
 
+-- CR 4's call: bit 48 set where it ran out, bits 32 to 47 how many breaks, bits 0 to 31 the instructions executed.
+abbrev pub reprintBits : ℕ → ℕ → ℕ → ℕ
+reprintBits outcome breaks executed = bitsAt 48 1 outcome + bitsAt 32 16 breaks + bitsAt 0 32 executed
+
+abbrev pub bits1980 : Said → ℕ
+bits1980 (Finds values) = reprintBits (getD values 0 0) (getD values 1 0) (getD values 2 0)
+bits1980 (Refuses t) = toldBits (t .number) (t .list) (t .place)
+
 -- What the header's accessors read of a returned number.
 abbrev pub readBits : ℕ → ℕ → ℕ → ℕ
 readBits low width bits = bits / 2 ^ low % 2 ^ width
@@ -93,3 +101,12 @@ outcomeIn bits = readBits 32 8 bits
 
 abbrev pub gapIn : ℕ → ℕ
 gapIn bits = readBits 0 32 bits
+
+abbrev pub ranOutIn : ℕ → ℕ
+ranOutIn bits = readBits 48 1 bits
+
+abbrev pub breaksIn : ℕ → ℕ
+breaksIn bits = readBits 32 16 bits
+
+abbrev pub executedIn : ℕ → ℕ
+executedIn bits = readBits 0 32 bits

@@ -1,10 +1,11 @@
-// The C interface: the six calls, each answer as one number of 64 bits. include/tteolmigu.h declares them.
+// The C interface: the seven calls, each answer as one number of 64 bits. include/tteolmigu.h declares them.
 use base::Check;
 use base::Ground;
 use gauge::Fitting;
 use gauge::Gauge;
 use hyphenation::Answer;
 use lookup::Located;
+use machine1980::Answer1980;
 use packer::Packing;
 ghost use mathlib.Core.Path.{_≡_};
 ghost use Prim.Native.Nat.{_-_};
@@ -14,7 +15,9 @@ ghost use Rattle.rightness.specs.Test.{judgeCheck};
 ghost use Rattle.hyphenation.specs.Calls.{levelsAnswer, levelsRoom, breaksAnswer, breaksRoom};
 ghost use Rattle.packer.specs.Pack.{packAnswer, packLeaves};
 ghost use Rattle.gauge.specs.Fit.{gaugeOf, fitSaid, fitAnswer};
-ghost use Rattle.tteolmigu.specs.Bits.{bitsAt, toldBits, refusalBits, foundBits, lineBits, answerBits, packingBits, checkBits, locatedBits, fittingBits, fitBits};
+ghost use Rattle.base.specs.Limits.{budget1980};
+ghost use Rattle.machine1980.specs.Calls.{said1980, answer1980, room1980};
+ghost use Rattle.tteolmigu.specs.Bits.{bitsAt, toldBits, refusalBits, foundBits, lineBits, answerBits, packingBits, checkBits, locatedBits, fittingBits, fitBits, reprintBits, bits1980};
 
 // The bits of a refusal's number, list and place.
 fn told_bits(number: usize, list: usize, place: usize) -> u64
@@ -129,6 +132,28 @@ fn fit_bits(fitting: Fitting) -> u64
     }
 }
 
+// The bits of a finding of the 1980 machine.
+fn reprint_bits(outcome: usize, breaks: usize, executed: usize) -> u64
+    ensures { λ r. ⌜ r ≡ reprintBits outcome breaks executed ⌝ }
+{
+    let high = outcome as u64 % 2;
+    let middle = breaks as u64 % 65536;
+    let low = executed as u64 % 4294967296;
+    high * 281474976710656 + middle * 4294967296 + low
+}
+
+fn bits_1980(answer: Answer1980) -> u64
+    ensures { λ r. ⌜ r ≡ bits1980 (said1980 answer) ⌝ }
+{
+    match answer {
+        Answer1980::Found { breaks, executed } => {
+            reprint_bits(machine1980::ANSWERED_OUTCOME, breaks, executed)
+        }
+        Answer1980::RanOut => reprint_bits(machine1980::RAN_OUT_OUTCOME, 0, 0),
+        Answer1980::Refused(g) => refusal_bits(g),
+    }
+}
+
 // The hyphenating call.
 #[no_mangle]
 pub extern "C" fn tteolmigu_hyphenate<'a>(
@@ -204,4 +229,13 @@ pub extern "C" fn tteolmigu_fit(
         line: line,
     };
     fit_bits(gauge::fit_word(gauge, widths, word, room))
+}
+
+// The 1980 machine.
+#[no_mangle]
+pub extern "C" fn tteolmigu_1980(word: &[u8], room: &mut [u8]) -> u64
+    ensures bits { λ r. ⌜ r ≡ bits1980 (answer1980 budget1980 (now (word .entry)) (length (now (room .entry)))) ⌝ }
+    ensures memory { λ r. ⌜ now (room .exit) ≡ room1980 budget1980 (now (word .entry)) (now (room .entry)) ⌝ }
+{
+    bits_1980(machine1980::hyphenate_1980(word, room))
 }
