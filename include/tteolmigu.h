@@ -76,6 +76,10 @@ extern "C" {
 #define TTEOLMIGU_MARGIN_LIMIT 63u  /* a margin, at most */
 #define TTEOLMIGU_LOOK_LIMIT 1040u  /* cells looked at for a word, at most: 16 * (63 + 2) */
 
+/* The table machine of 1980, which has numbers of its own. */
+#define TTEOLMIGU_1980_ROOM 64u     /* its break room has at least so many bytes */
+#define TTEOLMIGU_1980_LETTERS 63u  /* letters of its words, at most; at least 1 */
+
 /* Widths. */
 #define TTEOLMIGU_WIDTHS 26u           /* letter widths: one for each letter, a to z */
 #define TTEOLMIGU_WIDTH_LEAST 0.0      /* a width, at least */
@@ -190,6 +194,17 @@ uint64_t tteolmigu_fit(double hyphen, double line, const double *widths,
                        const uint8_t *word, size_t word_size,
                        const uint8_t *room, size_t room_size);
 
+/*
+ * Breaks a word as the table machine of 1980 does, for archive reprints: suffixes, prefixes and pairs of consonants by its own tables,
+ * without a list of exceptions. Words of 1 to 4 letters have no break and execute nothing; of a longer one with n letters a hyphen
+ * stands before letters 3 to n - 2 alone. Grounds 5, 2, 4, 3, in this order. A finding sets byte i of the room to 1 where a break lies
+ * after letter i, the other bytes up to 63 to 0, and leaves later ones alone. tteolmigu_1980_breaks has the number of breaks,
+ * tteolmigu_1980_executed that of the instructions, of both tables together. If more than 20,000 were needed the machine would run
+ * out, and leave the room as it was; tteolmigu_1980_ran_out tells it.
+ */
+uint64_t tteolmigu_1980(const uint8_t *word, size_t word_size,
+                        uint8_t *room, size_t room_size);
+
 /* Of every answer: the number of the ground, 0 for a finding. */
 static inline unsigned tteolmigu_number(uint64_t answer)
 {
@@ -246,6 +261,24 @@ static inline unsigned tteolmigu_outcome(uint64_t answer)
 
 /* Of a finding of fit: the break's gap, how many letters stand before it; 0 where it is no break. */
 static inline uint32_t tteolmigu_gap(uint64_t answer)
+{
+    return (uint32_t)(answer & UINT64_C(0xffffffff));
+}
+
+/* Of a finding of 1980: whether it ran out of instructions; breaks and executed ones are 0 then. */
+static inline unsigned tteolmigu_1980_ran_out(uint64_t answer)
+{
+    return (unsigned)(answer >> 48 & 0xffu);
+}
+
+/* Of a finding of 1980: how many breaks. */
+static inline unsigned tteolmigu_1980_breaks(uint64_t answer)
+{
+    return (unsigned)(answer >> 32 & 0xffffu);
+}
+
+/* Of a finding of 1980: how many instructions were executed. */
+static inline uint32_t tteolmigu_1980_executed(uint64_t answer)
 {
     return (uint32_t)(answer & UINT64_C(0xffffffff));
 }

@@ -5,7 +5,7 @@ use crate::reference;
 use crate::reference::liang;
 use crate::reference::right::Judge;
 use crate::reference::text::read_word;
-use crate::reference::{Gauge, Pattern, LONGEST};
+use crate::reference::{Gauge, Pattern, Seen, LONGEST};
 use crate::rng::Rng;
 use tteolmigu::raw;
 
@@ -382,6 +382,22 @@ impl Lab {
             return Err(format!("{}: {:#x}\n  {}", told, compiled, describe()));
         }
         self.judge(ours, theirs, Some(room), inputs, describe)
+    }
+
+    /// The call on the machine of 1980. What the word goes through by the
+    /// reference is added to `seen`.
+    pub fn archive(&mut self, word: &[u8], size: usize, seen: &mut Seen) -> Result<u64, Mismatch> {
+        let mut expected = self.before(size);
+        self.word.load(word, self.place);
+        self.room.load(&expected, self.place);
+        self.turn_key(true);
+        let ours = raw::archive(self.word.lend(), self.room.lend_mut());
+        self.turn_key(false);
+        let theirs = reference::archive(word, &mut expected, seen);
+        let inputs = self.word.holds(word);
+        self.judge(ours, theirs, Some(&expected), inputs, || {
+            format!("archive word {} room {}", show(word), size)
+        })
     }
 
     /// Levels and breaks of a good word over a table that the checker

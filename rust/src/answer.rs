@@ -45,6 +45,15 @@ pub(crate) fn fit(finding: u64, letters: usize) -> Fit {
     }
 }
 
+/// Of a finding of the machine of 1980: how many instructions were executed;
+/// `None` where it ran out. What no finding tells is taken for that too.
+pub(crate) fn executed(finding: u64) -> Option<u32> {
+    match bits(finding, 48, 64) {
+        0 => Some(bits(finding, 0, 32) as u32),
+        _ => None,
+    }
+}
+
 /// The line that a lookup's answer names. Offset and length are checked, not
 /// trusted: where they don't fit the list, there is no line.
 pub(crate) fn line(answer: u64, exceptions: Exceptions<'_>) -> Option<Line<'_>> {
@@ -102,6 +111,17 @@ mod tests {
         for finding in [0, 4, 1 << 32 | 4, 4 << 32, 0x101 << 32, 1 << 48 | 1 << 32] {
             assert_eq!(fit(finding, 5), Fit::None);
         }
+    }
+
+    #[test]
+    fn a_machine_that_ran_out_tells_nothing() {
+        assert_eq!(executed(0), Some(0));
+        assert_eq!(executed(3 << 32 | 20_000), Some(20_000));
+        assert_eq!(executed(60 << 32 | 0xffff_ffff), Some(0xffff_ffff));
+        assert_eq!(executed(1 << 48), None);
+        // What no finding tells.
+        assert_eq!(executed(2 << 48 | 7), None);
+        assert_eq!(executed(1 << 55 | 1 << 32 | 7), None);
     }
 
     #[test]

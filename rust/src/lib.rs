@@ -60,8 +60,9 @@
 //!
 //! The crate needs `core` alone and asks for no memory. The limits at its root
 //! have the names that the header has. Over bytes that nobody checked there are
-//! the calls of [`any`], and [`raw`] has all six with the answers' 64 bits as
-//! they come.
+//! the calls of [`any`], for archive reprints there are the breaks of 1980 in
+//! [`archive`], and [`raw`] has all seven calls with the answers' 64 bits as they
+//! come.
 //!
 //! With the feature `std`, which isn't on by default, [`Ground`] is a
 //! `std::error::Error`.
@@ -76,6 +77,7 @@ extern crate std;
 
 mod answer;
 pub mod any;
+pub mod archive;
 mod breaks;
 mod exceptions;
 mod gauge;
@@ -86,6 +88,7 @@ mod margins;
 pub mod raw;
 mod table;
 
+pub use archive::Archived;
 pub use breaks::{Breaks, Positions};
 pub use exceptions::{Exceptions, Line, List};
 pub use gauge::{Fit, Gauge};

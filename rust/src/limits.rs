@@ -1,5 +1,6 @@
 //! The version, and every limit that a caller meets. Each has its name in
-//! `include/tteolmigu.h`, there with `TTEOLMIGU_` before it.
+//! `include/tteolmigu.h`, there with `TTEOLMIGU_` before it. A name here can't
+//! begin with a year, so it ends with one.
 
 #![forbid(unsafe_code)]
 
@@ -71,6 +72,30 @@ pub const PACK_ROOM: usize = 59_398;
 /// # Ok::<(), Ground>(())
 /// ```
 pub const WORD_LIMIT: usize = 63;
+
+/// The least room in bytes for the breaks that the machine of 1980 gives, where
+/// one is lent. It is a number of its own, beside [`ROOM`].
+///
+/// ```
+/// use tteolmigu::{raw, Ground, ROOM_1980};
+///
+/// let answer = raw::archive(b"on", &mut [0; ROOM_1980]);
+/// assert_eq!(Ground::of_answer(answer), None);
+/// let answer = raw::archive(b"on", &mut [0; ROOM_1980 - 1]);
+/// assert_eq!(Ground::of_answer(answer), Some(Ground::RoomShort));
+/// ```
+pub const ROOM_1980: usize = 64;
+
+/// The most letters of a word for the machine of 1980.
+///
+/// ```
+/// use tteolmigu::{archive, Ground, LETTERS_1980};
+///
+/// assert!(archive::hyphenate(&[b'a'; LETTERS_1980]).is_ok());
+/// let longer = archive::hyphenate(&[b'a'; LETTERS_1980 + 1]);
+/// assert_eq!(longer, Err(Ground::WordLong));
+/// ```
+pub const LETTERS_1980: usize = 63;
 
 /// The least margin.
 ///
@@ -331,20 +356,29 @@ pub const PACK_STACK: usize = 20_480;
 pub(crate) mod tests {
     use super::*;
     use std::collections::BTreeMap;
+    use std::string::{String, ToString};
 
     /// The header, as a C program reads it.
     pub(crate) const HEADER: &str = include_str!("../../include/tteolmigu.h");
 
+    /// A name of the header as it is here.
+    fn in_rust(name: &str) -> String {
+        match name.strip_prefix("1980_") {
+            Some(rest) => rest.to_string() + "_1980",
+            None => name.to_string(),
+        }
+    }
+
     /// Each constant here with its name. They are all far below 2^53, so that as
     /// doubles they are what they are.
     macro_rules! named {
-        ($($name:ident)*) => { BTreeMap::from([$((stringify!($name), $name as f64)),*]) };
+        ($($name:ident)*) => { BTreeMap::from([$((stringify!($name).to_string(), $name as f64)),*]) };
     }
 
     /// The value of a number, a name, or a sum of products of these.
-    fn value(text: &str, names: &BTreeMap<&str, f64>) -> f64 {
+    fn value(text: &str, names: &BTreeMap<String, f64>) -> f64 {
         let one = |text: &str| match text.trim().strip_prefix("TTEOLMIGU_") {
-            Some(name) => names[name],
+            Some(name) => names[&in_rust(name)],
             None => text.trim().trim_end_matches('u').parse().expect(text),
         };
         let text = text.trim_start_matches('(').trim_end_matches(')');
@@ -355,13 +389,14 @@ pub(crate) mod tests {
     }
 
     /// Each constant that the header defines.
-    fn header() -> BTreeMap<&'static str, f64> {
+    fn header() -> BTreeMap<String, f64> {
         let mut names = BTreeMap::new();
         for line in HEADER.lines() {
             let line = line.split("/*").next().unwrap_or("");
             let define = line.strip_prefix("#define TTEOLMIGU_");
             if let Some((name, text)) = define.and_then(|rest| rest.split_once(' ')) {
-                let before = names.insert(name, value(text, &names));
+                let value = value(text, &names);
+                let before = names.insert(in_rust(name), value);
                 assert_eq!(before, None, "{} is defined twice", name);
             }
         }
@@ -375,6 +410,7 @@ pub(crate) mod tests {
             MARGIN_LIMIT LOOK_LIMIT WIDTHS WIDTH_LEAST WIDTH_LIMIT PATTERN_TEXT PATTERN_LIMIT
             LEVEL_LIMIT EXCEPTION_TEXT EXCEPTION_LIMIT CUSTOMER_LIST HOUSE_LIST EDITION HEAD_SIZE
             CELL_SIZE ENTRY_SIZE CELL_LIMIT ENTRY_LIMIT TABLE_LEAST TABLE_LIMIT STACK PACK_STACK
+            ROOM_1980 LETTERS_1980
         );
         assert_eq!(ours, header());
     }

@@ -1,4 +1,4 @@
-//! The six calls as the C interface answers them: one number of 64 bits,
+//! The seven calls as the C interface answers them: one number of 64 bits,
 //! not yet taken apart.
 //!
 //! They are safe to use, because every pointer and length comes from a slice.
@@ -71,6 +71,13 @@ mod c {
             word: *const u8,
             word_length: usize,
             room: *const u8,
+            room_length: usize,
+        ) -> u64;
+
+        pub fn tteolmigu_1980(
+            word: *const u8,
+            word_length: usize,
+            room: *mut u8,
             room_length: usize,
         ) -> u64;
     }
@@ -244,4 +251,23 @@ pub fn fit(hyphen: f64, line: f64, widths: &[f64; WIDTHS], word: &[u8], room: &[
             room.len(),
         )
     }
+}
+
+/// Marks in `room` the breaks that the table machine of 1980 gives a word. An
+/// answer has the number of breaks in bits 32 to 47 and that of the instructions
+/// executed in bits 0 to 31, or bit 48 alone if the budget of 20,000 ran out; the
+/// room is untouched then. Grounds 5, 2, 4 and 3, in this order.
+///
+/// ```
+/// use tteolmigu::raw;
+///
+/// let mut room = [7; 64];
+/// assert_eq!(raw::archive(b"nation", &mut room), 1 << 32 | 7); // one break, 7 executed
+/// assert_eq!(room[..6], [0, 0, 1, 0, 0, 0]); // na-tion
+/// assert_eq!(raw::archive(b"on", &mut room), 0);
+/// assert_eq!(raw::archive(b"o1", &mut room), 3 << 56 | 1);
+/// ```
+pub fn archive(word: &[u8], room: &mut [u8]) -> u64 {
+    // Safety: as in `hyphenate`.
+    unsafe { c::tteolmigu_1980(word.as_ptr(), word.len(), room.as_mut_ptr(), room.len()) }
 }

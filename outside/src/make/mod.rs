@@ -1,5 +1,6 @@
 //! Makers of cases.
 
+pub mod affixes;
 pub mod damage;
 pub mod derive;
 pub mod exceptions;

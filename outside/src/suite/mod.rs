@@ -1,5 +1,6 @@
 //! The named tests.
 
+mod archive;
 mod exceptions;
 mod figures;
 mod gauge;
@@ -139,6 +140,22 @@ pub fn all(options: &Options) -> Vec<Test> {
     add("gauge-figures", gauge::figures);
     add("gauge-wrapper", gauge::wrapper);
     add("gauge-additions", gauge::additions);
+    add("archive-parts", archive::parts);
+    add("archive-walks", archive::walks);
+    add("archive-pairs", archive::pairs);
+    add("archive-all-pairs", archive::all_pairs);
+    add("archive-affixes", archive::beginnings_and_endings);
+    add("archive-stacks", archive::stacks);
+    add("archive-random", archive::random);
+    add("archive-short", archive::short);
+    add("archive-below", archive::below_the_sheet);
+    add("archive-most", archive::most);
+    add("archive-grounds", archive::grounds);
+    add("archive-bytes-and-sizes", archive::bytes_and_sizes);
+    add("archive-hostile", archive::hostile);
+    add("archive-same", archive::same);
+    add("archive-figures", archive::figures);
+    add("archive-wrapper", archive::wrapper);
     add("word-bytes", words::all_bytes);
     add("word-lengths", words::all_lengths);
     add("words-bad", words::bad);

@@ -318,6 +318,7 @@ pub fn huge_lengths(run: &mut Run) -> Result<(), Mismatch> {
             try_one("word of the lookup", 0, raw::lookup(long, b"", b""))?;
             let answer = raw::fit(0.0, 1.0, &[1.0; WIDTHS], long, &room);
             try_one("word of the call on widths", 4, answer)?;
+            try_one("word of 1980", 4, raw::archive(long, &mut room))?;
             // A room so long is none too short, and what is refused comes later.
             let answer = raw::fit(0.0, -1.0, &[1.0; WIDTHS], b"on", long);
             try_one("room of the call on widths", 13, answer)?;
