@@ -268,7 +268,7 @@ static inline uint32_t tteolmigu_gap(uint64_t answer)
 /* Of a finding of 1980: whether it ran out of instructions; breaks and executed ones are 0 then. */
 static inline unsigned tteolmigu_1980_ran_out(uint64_t answer)
 {
-    return (unsigned)(answer >> 48 & 0xffu);
+    return (unsigned)(answer >> 48 & 1u);
 }
 
 /* Of a finding of 1980: how many breaks. */
