@@ -8,7 +8,7 @@ use borrow.Author.Tests.{ltb-false, leb-true, eqb-true, not-false}
 use lib.Dec.{ltb, leb, eqb}
 use lib.Ieee.{Float}
 use lib.ListN.{length, getD}
-use Rattle.base.specs.Limits.{wordLimit, roomSize, patternLimit, patternText, exceptionText, customerList, houseList, cellLimit, entryLimit, packRoom}
+use Rattle.base.specs.Limits.{wordLimit, roomSize, patternLimit, patternText, exceptionText, customerList, houseList, cellLimit, entryLimit, packRoom, wordLimit1980, roomSize1980, budget1980}
 use Rattle.base.specs.Grounds.{told, Said, Finds, Refuses, first, refuseIf, firstOf}
 use Rattle.base.specs.declared.Check.{Check}
 use Rattle.base.specs.declared.Check.the-variants.{Fine, Refused}
@@ -16,7 +16,7 @@ use Rattle.base.specs.declared.Ground.{Ground}
 use Rattle.base.specs.declared.Ground.the-variants.{Margin, WordEmpty, NotLetter, WordLong, RoomShort, BadException, BadPattern, TextLong, TableForm, PackRoomShort, NoFit, NotRight, BadWidth}
 use Rattle.base.proofs.Grounds.{Ordered, both-fine, not-refused, said-found, said-refused}
 use Rattle.base.proofs.Lists.{clash, both}
-use Rattle.rooms.specs.Rooms.{isShort, sheet, nonzero}
+use Rattle.rooms.specs.Rooms.{isShort, sheet, nonzero, bit}
 use Rattle.rooms.proofs.Sheets.{sheet-length}
 use Rattle.rooms.proofs.Laws.{nonzero-few}
 use Rattle.words.specs.Symbols.{letter, symbolsOf}
@@ -51,11 +51,16 @@ use Rattle.gauge.specs.declared.Gauge.{Gauge}
 use Rattle.gauge.proofs.Laws.{fit-judged}
 use Rattle.gauge.proofs.Order.{fit-ordered}
 use Rattle.gauge.proofs.Theorems.{last-at-most}
+use Rattle.machine1980.specs.Run.{Outcome, RanOut, Marked, machine}
+use Rattle.machine1980.specs.Breaks as reprint
+use Rattle.machine1980.specs.Calls.{grounds1980, valuesOf, answer1980, judge1980}
+use Rattle.machine1980.proofs.Order.{ordered-1980, judged-fine}
+use Rattle.machine1980.proofs.Budgets.{mostExecuted, Within, within}
 use Rattle.packer.specs.declared.Packing.{Packing}
 use Rattle.packer.specs.declared.Packing.the-variants as packings
 use Rattle.packer.specs.Pack.{judgePack, packing, packAnswer}
-use Rattle.tteolmigu.specs.Bits.{refusalBits, lineBits, answerBits, packingBits, checkBits, locatedBits, fitBits, numberIn, listIn, placeIn, marksIn, looksIn, sizeIn, offsetIn, lengthIn, outcomeIn, gapIn}
-use Rattle.tteolmigu.proofs.Read.{told-number, told-list, told-place, found-number, found-marks, found-looks, size-number, size-size, line-number, line-list, line-offset, line-length, fitting-number, fitting-outcome, fitting-gap}
+use Rattle.tteolmigu.specs.Bits.{refusalBits, lineBits, answerBits, packingBits, checkBits, locatedBits, fitBits, bits1980, numberIn, listIn, placeIn, marksIn, looksIn, sizeIn, offsetIn, lengthIn, outcomeIn, gapIn, ranOutIn, breaksIn, executedIn}
+use Rattle.tteolmigu.proofs.Read.{told-number, told-list, told-place, found-number, found-marks, found-looks, size-number, size-size, line-number, line-list, line-offset, line-length, fitting-number, fitting-outcome, fitting-gap, reprint-number, reprint-ran-out, reprint-breaks, reprint-executed}
 use Rattle.demands.proofs.Packed.{judged-patterns, fit-accepted}
 
 -- What is read of a refusal's bits.
@@ -123,12 +128,12 @@ letters-small at [] h = tt
 letters-small at (b ∷ word) h =
     small-either (letter b) (allLetters (at + 1) word) (Refused (NotLetter at)) (letters-small (at + 1) word (omega arith)) (record { list = omega arith; place = omega arith })
 
-word-small : (word : List ℕ) → SmallCheck (judgeWord wordLimit word)
+word-small : (limit : ℕ) → limit < 281474976710656 → (word : List ℕ) → SmallCheck (judgeWord limit word)
 unfolding judgeWord
-word-small word =
+word-small limit k word =
     small-first (refuseIf (eqb (length word) 0) WordEmpty) _ (small-if (eqb (length word) 0) WordEmpty (record { list = omega arith; place = omega arith }))
-    (small-unless (ltb wordLimit (length word)) WordLong (allLetters 0 word) (record { list = omega arith; place = omega arith })
-    λ z. letters-small 0 word (omega (arith, ltb-false wordLimit (length word) z)))
+    (small-unless (ltb limit (length word)) WordLong (allLetters 0 word) (record { list = omega arith; place = omega arith })
+    λ z. letters-small 0 word (omega (arith, ltb-false limit (length word) z)))
 
 -- lists
 SmallLines : Lines → Type 0
@@ -193,14 +198,14 @@ margins-small left right = small-if (badMargin left || badMargin right) Margin (
 
 levels-small : (word table : List ℕ) (size : ℕ) → SmallCheck (judgeLevels word table size)
 unfolding judgeLevels
-levels-small word table size = small-first (judgeRoom size) _ (room-small size) (small-first (judgeWord wordLimit word) (judgeTable table) (word-small word) (table-small table))
+levels-small word table size = small-first (judgeRoom size) _ (room-small size) (small-first (judgeWord wordLimit word) (judgeTable table) (word-small wordLimit (omega arith) word) (table-small table))
 
 hyphenate-small : (left right : ℕ) (word customer house table : List ℕ) (size : ℕ) → SmallCheck (judgeHyphenate left right word customer house table size)
 unfolding judgeHyphenate
 hyphenate-small left right word customer house table size =
     small-first (judgeMargins left right) _ (margins-small left right)
     (small-first (judgeRoom size) _ (room-small size)
-    (small-first (judgeWord wordLimit word) _ (word-small word)
+    (small-first (judgeWord wordLimit word) _ (word-small wordLimit (omega arith) word)
     (small-first (judgeLists customer house) (judgeTable table) (lists-small customer house) (table-small table))))
 
 check-small : (text table : List ℕ) → SmallCheck (judgeCheck text table)
@@ -364,7 +369,7 @@ fit-small : (g : Gauge) (widths : List Float) (word : List ℕ) (size : ℕ) →
 unfolding judgeFit
 fit-small g widths word size =
     small-first (refuseIf (ltb size roomSize) RoomShort) _ (small-if (ltb size roomSize) RoomShort (plain RoomShort refl refl))
-    (small-first (judgeWord wordLimit word) _ (word-small word)
+    (small-first (judgeWord wordLimit word) _ (word-small wordLimit (omega arith) word)
     (small-if (anyBad (given g widths)) BadWidth (plain BadWidth refl refl)))
 
 -- a finding's two numbers fit: the gap isn't past the last
@@ -389,3 +394,43 @@ fit-bits g widths word room = go (judgeFit g widths word (length room)) refl (fi
         read (said-found o (fitValues g widths word room))
         (values-small (wholeFits g widths word) (lastOf (breakFits g widths word room) (length word - 1)) (omega (arith, n, last-at-most (breakFits g widths word room) (length word - 1))))
     go (Refused x) j s o = let r = reads-refusal x s in read (said-refused o (fitValues g widths word room)) (r .number, r .list, r .place)
+
+-- The bits of CR 4's call say what it answers: whether it ran out, how many breaks and how many instructions, or the refusal.
+pub Reads1980 : Said → ℕ → Type 0
+Reads1980 (Finds values) bits = (numberIn bits ≡ 0) × (ranOutIn bits ≡ getD values 0 0) × (breaksIn bits ≡ getD values 1 0) × (executedIn bits ≡ getD values 2 0)
+Reads1980 (Refuses t) bits = (numberIn bits ≡ t .number) × (listIn bits ≡ t .list) × (placeIn bits ≡ t .place)
+
+small-1980 : (word : List ℕ) (size : ℕ) → SmallCheck (judge1980 word size)
+unfolding judge1980
+small-1980 word size =
+    small-first (refuseIf (isShort roomSize1980 size) RoomShort) _ (small-if (isShort roomSize1980 size) RoomShort (plain RoomShort refl refl)) (word-small wordLimit1980 (omega arith) word)
+
+breaks-fit : (n finale : ℕ) (marks : List ℕ) → nonzero (reprint.breakSheet n finale marks) < 65536
+unfolding reprint.breakSheet sheet
+breaks-fit n finale marks = omega (arith, nonzero-few (reprint.breakSheet n finale marks), sheet-length (λ g. bit (reprint.isBreak n finale marks g)) 0 roomSize1980)
+
+outcome-reads : (n most : ℕ) (o : Outcome) → most < 4294967296 → Within most o → Reads1980 (Finds (valuesOf n o)) (bits1980 (Finds (valuesOf n o)))
+unfolding valuesOf Reads1980
+outcome-reads n most RanOut h w = absurd w
+outcome-reads n most (Marked finale marks executed) h w =
+    let b = breaks-fit n finale marks in
+    let k : executed < 4294967296 = omega (arith, w) in
+    let m = nonzero (reprint.breakSheet n finale marks) in
+    (reprint-number 0 m executed (omega arith) b k, reprint-ran-out 0 m executed (omega arith) b k, reprint-breaks 0 m executed (omega arith) b k, reprint-executed 0 m executed (omega arith) b k)
+
+pub bits-1980 : (word : List ℕ) (size : ℕ) → Reads1980 (answer1980 budget1980 word size) (bits1980 (answer1980 budget1980 word size))
+unfolding answer1980 SmallCheck Reads1980
+bits-1980 word size = go (judge1980 word size) refl (small-1980 word size) (ordered-1980 word size)
+  where
+    read : {said : Said} → firstOf (Finds (valuesOf (length word) (machine budget1980 word))) (grounds1980 word size) ≡ said → Reads1980 said (bits1980 said)
+        → Reads1980 (firstOf (Finds (valuesOf (length word) (machine budget1980 word))) (grounds1980 word size)) (bits1980 (firstOf (Finds (valuesOf (length word) (machine budget1980 word))) (grounds1980 word size)))
+    read e r = rw e r
+
+    go : (c : Check) → judge1980 word size ≡ c → SmallCheck c → Ordered c (grounds1980 word size)
+        → Reads1980 (firstOf (Finds (valuesOf (length word) (machine budget1980 word))) (grounds1980 word size)) (bits1980 (firstOf (Finds (valuesOf (length word) (machine budget1980 word))) (grounds1980 word size)))
+    go Fine j s o =
+        let w = judged-fine word size j in
+        let n = word-fits wordLimit1980 word w in
+        read (said-found o (valuesOf (length word) (machine budget1980 word)))
+        (outcome-reads (length word) (mostExecuted (length word)) (machine budget1980 word) (omega arith) (within word w budget1980 (omega arith)))
+    go (Refused x) j s o = let r = reads-refusal x s in read (said-refused o (valuesOf (length word) (machine budget1980 word))) (r .number, r .list, r .place)

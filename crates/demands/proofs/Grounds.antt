@@ -11,7 +11,7 @@ use lib.Ieee.{Float}
 use lib.ListN.{length}
 use Rattle.base.specs.Limits.{packRoom}
 use Rattle.base.specs.Grounds.{Told, Said, Finds, Refuses, says, Row, firstOf, numbersOf, isFinding, anyHolds, oneOf}
-use Rattle.base.specs.Orders.{hyphenateOrder, levelsOrder, packOrder, checkOrder, lookupOrder, fitOrder}
+use Rattle.base.specs.Orders.{hyphenateOrder, levelsOrder, packOrder, checkOrder, lookupOrder, fitOrder, order1980}
 use Rattle.base.specs.declared.Check.{Check}
 use Rattle.base.proofs.Order.{Chosen, finding-exactly, refuses-first, refuses-listed, none-found, some-refused}
 use Rattle.rooms.specs.Rooms.{filled}
@@ -30,6 +30,10 @@ use Rattle.packer.specs.declared.Packing.{Packing}
 use Rattle.gauge.specs.Fit.{fitGrounds, fitSaid, fitAnswer}
 use Rattle.gauge.specs.declared.Gauge.{Gauge}
 use Rattle.gauge.specs.declared.Fitting.{Fitting}
+use Rattle.machine1980.specs.Run.{Outcome, RanOut, machine}
+use Rattle.machine1980.specs.Calls.{grounds1980, said1980, leftBy, answer1980, room1980, Reprints}
+use Rattle.machine1980.specs.Calls as reprint
+use Rattle.machine1980.specs.declared.Answer1980.{Answer1980}
 
 -- What demand 1 says of one answer of a call with this order of grounds.
 pub record Numbered (order : List ℕ) (grounds : List Row) (said : Said) : Type 0 where
@@ -125,3 +129,25 @@ fit-order g widths word size = refl
 pub fit-numbered : (g : Gauge) (widths : List Float) (word room : List ℕ) (r : Fitting) → fitSaid r ≡ fitAnswer g widths word room → Numbered fitOrder (fitGrounds g widths word (length room)) (fitSaid r)
 unfolding fitAnswer
 fit-numbered g widths word room r p = numbered fitOrder _ _ (fitSaid r) (fit-order g widths word (length room)) p
+
+-- The call of CR 4, under any budget. "Refusals leave lent memory untouched", and so does running out.
+pub order-1980 : (word : List ℕ) (size : ℕ) → numbersOf (grounds1980 word size) ≡ order1980
+unfolding grounds1980 wordGrounds
+order-1980 word size = refl
+
+module _ (budget : ℕ) (word room after : List ℕ) (r : Answer1980) (p : Reprints budget word room r after) where
+  pub numbered-1980 : Numbered order1980 (grounds1980 word (length room)) (said1980 r)
+  unfolding answer1980
+  numbered-1980 = numbered order1980 _ _ (said1980 r) (order-1980 word (length room)) (p .answered)
+
+  pub refused-1980 : (t : Told) → said1980 r ≡ Refuses t → after ≡ room
+  unfolding room1980
+  refused-1980 t e = p .memory ∙ ap (λ (s : Said). reprint.roomLeft s (machine budget word) (length word) room) (sym (p .answered) ∙ e)
+
+  pub ran-out-1980 : machine budget word ≡ RanOut → after ≡ room
+  unfolding room1980 leftBy
+  ran-out-1980 e = p .memory ∙ either (answer1980 budget word (length room))
+    where
+      either : (s : Said) → reprint.roomLeft s (machine budget word) (length word) room ≡ room
+      either (Finds values) = ap (λ (o : Outcome). leftBy (length word) o room) e
+      either (Refuses t) = refl

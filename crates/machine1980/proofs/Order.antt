@@ -24,7 +24,11 @@ pub ordered-1980 : (word : List ℕ) (size : ℕ) → Ordered (judge1980 word si
 unfolding judge1980 grounds1980
 ordered-1980 word size = ordered-first (ordered-if (isShort roomSize1980 size) RoomShort) (word-ordered wordLimit1980 word)
 
--- what a judgement that is fine says of the room and the word
+-- what a judgement that is fine says of the word and of the room
+pub judged-fine : (word : List ℕ) (size : ℕ) → judge1980 word size ≡ Fine → judgeWord wordLimit1980 word ≡ Fine
+unfolding judge1980
+judged-fine word size e = both-fine (refuseIf (isShort roomSize1980 size) RoomShort) (judgeWord wordLimit1980 word) e .1
+
 pub sizes : (word : List ℕ) (size : ℕ) {judged : Check} → says judged ≡ firstOf (Finds []) (grounds1980 word size) → judged ≡ Fine
     → (judgeWord wordLimit1980 word ≡ Fine) × (roomSize1980 ≤ size)
 unfolding judge1980
