@@ -23,11 +23,11 @@
  * trip) must change it back before it calls tteolmigu_fit. The archive adds with SSE2's addsd alone, so that nothing is kept wider than
  * a double and no two operations become one; tests/floats holds it to that.
  *
- * Stack. Pack takes at most TTEOLMIGU_PACK_STACK bytes and every other call at most TTEOLMIGU_STACK, whatever texts and tables
- * hold; as compiled today these are 18,764 bytes for pack, 616 for hyphenate, 376 for levels, 348 for check, 220 for lookup and at
- * most 64 for fit. No function calls itself, so that a chain of 2,048 entries takes no more than a single entry. This isn't proved;
- * tests/stack holds the archive to it, with the longest chains and the fullest lists. Where a program's symbols are bound lazily,
- * the loader takes stack of its own besides, once, at the first memset or memcpy.
+ * Stack. Pack takes at most TTEOLMIGU_PACK_STACK bytes, 1980 at most TTEOLMIGU_1980_STACK and every other call at most
+ * TTEOLMIGU_STACK, whatever texts and tables hold; as compiled today these are 18,764 bytes for pack, 2,000 for 1980, 568 for hyphenate,
+ * 376 for levels, 348 for check, 252 for lookup and at most 64 for fit. No function calls itself, so that a chain of 2,048 entries
+ * takes no more than a single entry. This isn't proved; tests/stack holds the archive to it, with the longest chains and the fullest
+ * lists. Where a program's symbols are bound lazily, the loader takes stack of its own besides, once, at the first memset or memcpy.
  *
  * Answers. Each call returns one number of 64 bits. Bits 56 to 63 are 0 for a finding, else the number of the ground on which the call
  * refuses. A refusal tells in bits 48 to 55 the exception list it speaks of (1 the customer's, 2 the house's, 0 none) and in bits 0 to
@@ -62,7 +62,7 @@ extern "C" {
 
 /* The version of this header and of the library that it declares. A later one has a greater TTEOLMIGU_VERSION. */
 #define TTEOLMIGU_VERSION_MAJOR 1
-#define TTEOLMIGU_VERSION_MINOR 2
+#define TTEOLMIGU_VERSION_MINOR 3
 #define TTEOLMIGU_VERSION_PATCH 0
 #define TTEOLMIGU_VERSION (TTEOLMIGU_VERSION_MAJOR * 1000000 + TTEOLMIGU_VERSION_MINOR * 1000 + TTEOLMIGU_VERSION_PATCH)
 
@@ -107,6 +107,7 @@ extern "C" {
 /* Stack in bytes that a call takes at most: what tests/stack sees, with some air. */
 #define TTEOLMIGU_STACK 1024u        /* hyphenate, levels, check, lookup and fit */
 #define TTEOLMIGU_PACK_STACK 20480u  /* pack, which has its arrays there */
+#define TTEOLMIGU_1980_STACK 2560u   /* 1980, which has its tables there */
 
 /* The numbers of the grounds, as listed above. */
 enum tteolmigu_ground {

@@ -271,6 +271,40 @@ static void fits_of_words(void)
     expect("the room is only read", memcmp(room, before, sizeof room) == 0);
 }
 
+static uint64_t reprint(const char *word)
+{
+    return tteolmigu_1980(bytes(word), strlen(word), room, TTEOLMIGU_1980_ROOM);
+}
+
+/* The machine of 1980: what it finds, its limits, and what it leaves in the room. */
+static void words_of_1980(void)
+{
+    uint8_t before[sizeof room];
+    uint64_t r;
+
+    memset(room, 7, sizeof room);
+    r = reprint("Understatement");
+    expect("1980", tteolmigu_number(r) == 0 && tteolmigu_1980_ran_out(r) == 0);
+    expect("its breaks", tteolmigu_1980_breaks(r) == 3 && room[2] == 1 && room[5] == 1 && room[10] == 1);
+    expect("its instructions", tteolmigu_1980_executed(r) == 15);
+    expect("no other break", room[0] == 0 && room[1] == 0 && room[3] == 0 && room[11] == 0 && room[TTEOLMIGU_1980_ROOM - 1] == 0);
+    memcpy(before, room, sizeof room);
+    expect("a short word", reprint("late") == 0 && room[2] == 0);
+    memcpy(room, before, sizeof room);
+    expect("before the word", reprint("lately") == 10);
+    memcpy(room, before, sizeof room);
+    expect("its longest word", tteolmigu_number(reprint(letters(TTEOLMIGU_1980_LETTERS, ""))) == 0);
+    memcpy(room, before, sizeof room);
+    expect("a longer one", reprint(letters(TTEOLMIGU_1980_LETTERS + 1, "1")) == (uint64_t)TTEOLMIGU_WORD_LONG << 56);
+    expect("no word", reprint("") == (uint64_t)TTEOLMIGU_WORD_EMPTY << 56);
+    expect("an apostrophe", reprint("l'entrata") == ((uint64_t)TTEOLMIGU_NOT_LETTER << 56 | 1));
+    r = tteolmigu_1980(bytes(""), 0, room, TTEOLMIGU_1980_ROOM - 1);
+    expect("a short room before all", r == (uint64_t)TTEOLMIGU_ROOM_SHORT << 56);
+    expect("refusals leave the room", memcmp(room, before, sizeof room) == 0);
+    r = UINT64_C(1) << 48;
+    expect("how running out is read", tteolmigu_number(r) == 0 && tteolmigu_1980_ran_out(r) == 1 && tteolmigu_1980_breaks(r) == 0);
+}
+
 static void limits_of_widths(void)
 {
     uint64_t r;
@@ -362,6 +396,7 @@ int main(void)
 
     versions();
     fits_of_words();
+    words_of_1980();
     limits_of_words();
     limits_of_widths();
     limits_of_lists();

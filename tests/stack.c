@@ -33,9 +33,9 @@
 #define PATTERNS 32768u
 #define EXCEPTIONS 8192u
 
-enum call { NOTHING, TAKE, HYPHENATE, LEVELS, PACK, CHECK, LOOKUP, FIT, CALLS };
+enum call { NOTHING, TAKE, HYPHENATE, LEVELS, PACK, CHECK, LOOKUP, FIT, ARCHIVE, CALLS };
 
-static const char *const names[CALLS] = {"nothing", "take", "hyphenate", "levels", "pack", "check", "lookup", "fit"};
+static const char *const names[CALLS] = {"nothing", "take", "hyphenate", "levels", "pack", "check", "lookup", "fit", "1980"};
 
 struct bytes {
     uint8_t *at;
@@ -107,6 +107,8 @@ static uint64_t make_call(const struct job *job, uint8_t *marks)
     case FIT:
         /* As the room stands before a call, every gap is a break. */
         return tteolmigu_fit(job->hyphen, job->line, job->widths, job->word.at, job->word.size, marks, TTEOLMIGU_ROOM);
+    case ARCHIVE:
+        return tteolmigu_1980(job->word.at, job->word.size, marks, TTEOLMIGU_1980_ROOM);
     default:
         return 0;
     }
@@ -172,7 +174,7 @@ static size_t size_for(enum call call)
 static void one(const char *what, struct job job, uint64_t want)
 {
     const char *name = names[job.call];
-    size_t most_allowed = job.call == PACK ? TTEOLMIGU_PACK_STACK : TTEOLMIGU_STACK;
+    size_t most_allowed = job.call == PACK ? TTEOLMIGU_PACK_STACK : job.call == ARCHIVE ? TTEOLMIGU_1980_STACK : TTEOLMIGU_STACK;
     int ended;
 
     memset(room, OLD, sizeof room);
@@ -243,6 +245,11 @@ static void fit(const char *what, struct bytes word, double line, double last, u
     expect("room", what, "written", memcmp(room, sheet, sizeof sheet) == 0);
 }
 
+static void reprint(const char *what, struct bytes word, uint64_t want)
+{
+    one(what, (struct job){.call = ARCHIVE, .word = word}, want);
+}
+
 static uint64_t refusal(uint64_t ground, uint64_t list, uint64_t place)
 {
     return ground << 56 | list << 48 | place;
@@ -261,6 +268,14 @@ static struct bytes fresh(size_t size)
     if (made.at == NULL)
         exit(2);
     memset(made.at, 0, size);
+    return made;
+}
+
+static struct bytes spelt(const char *word)
+{
+    struct bytes made = fresh(strlen(word));
+
+    memcpy(made.at, word, made.size);
     return made;
 }
 
@@ -582,6 +597,14 @@ int main(void)
     fit("a digit as last byte", digit, 6.3, 0.1, refusal(3, 0, LETTERS - 1));
     fit("a word too long", longer(word), 6.3, 0.1, refusal(4, 0, 0));
     fit("the last width too great", word, 6.3, 1001.0, refusal(13, 0, 0));
+
+    /* Of all words tried, the second executes the most instructions; the third comes to a place before the word's. */
+    reprint("no suffix and no prefix", word, finding(0, 2));
+    reprint("the most instructions", spelt("ininininininininininininininininininininininininininininintreed"), finding(28, 142));
+    reprint("before the word", spelt("lated"), finding(0, 9));
+    reprint("a short word", spelt("late"), 0);
+    reprint("a digit as last byte", digit, refusal(3, 0, LETTERS - 1));
+    reprint("a word too long", longer(word), refusal(4, 0, 0));
 
     list = triples();
     pack("a list of full size", list, packed("a list of full size", list).size);

@@ -16,7 +16,7 @@ pub const VERSION_MAJOR: u32 = 1;
 /// ```
 /// assert!(tteolmigu::VERSION_MINOR < 1_000);
 /// ```
-pub const VERSION_MINOR: u32 = 2;
+pub const VERSION_MINOR: u32 = 3;
 
 /// The third number of the version.
 ///
@@ -345,12 +345,16 @@ pub const TABLE_LEAST: usize = 12;
 /// ```
 pub const TABLE_LIMIT: usize = PACK_ROOM;
 
-/// The bytes of stack that any call but packing takes at most in the library.
+/// The bytes of stack that any call but packing and the machine of 1980 takes at
+/// most in the library.
 /// The functions here add a room and some slices to it.
 pub const STACK: usize = 1_024;
 
 /// The bytes of stack that packing takes at most in the library.
 pub const PACK_STACK: usize = 20_480;
+
+/// The bytes of stack that the machine of 1980 takes at most in the library.
+pub const STACK_1980: usize = 2_560;
 
 #[cfg(test)]
 pub(crate) mod tests {
@@ -410,7 +414,7 @@ pub(crate) mod tests {
             MARGIN_LIMIT LOOK_LIMIT WIDTHS WIDTH_LEAST WIDTH_LIMIT PATTERN_TEXT PATTERN_LIMIT
             LEVEL_LIMIT EXCEPTION_TEXT EXCEPTION_LIMIT CUSTOMER_LIST HOUSE_LIST EDITION HEAD_SIZE
             CELL_SIZE ENTRY_SIZE CELL_LIMIT ENTRY_LIMIT TABLE_LEAST TABLE_LIMIT STACK PACK_STACK
-            ROOM_1980 LETTERS_1980
+            ROOM_1980 LETTERS_1980 STACK_1980
         );
         assert_eq!(ours, header());
     }

@@ -1,7 +1,9 @@
 //! The table machine of 1980: words that go through every row of its tables and
 //! every turn of its scan, known ones, grounds and rooms.
 
+use super::real::data;
 use crate::run::{demand, Run};
+
 use outside::fence::Place;
 use outside::lab::{Lab, Mismatch};
 use outside::make::{affixes, words};
@@ -9,6 +11,7 @@ use outside::reference::seen1980::TURNS;
 use outside::reference::tables1980::{Prefix, Suffix, PREFIX, SUFFIX};
 use outside::reference::Seen;
 use outside::rng::Rng;
+use std::collections::BTreeSet;
 use tteolmigu::{archive, Archived, Ground};
 
 /// A good word: it is answered, and within what a word of so many letters may
@@ -503,6 +506,37 @@ pub fn hostile(run: &mut Run) -> Result<(), Mismatch> {
         lab.archive(&word, size, &mut seen)?;
         lab.lock_inputs(false);
         Ok(())
+    })
+}
+
+/// Every word of the repository's own prose, with what stands between as the
+/// ends of words.
+pub fn prose(run: &mut Run) -> Result<(), Mismatch> {
+    let mut texts = data("../README.md")?;
+    for name in [
+        "ARCHITECTURE",
+        "CHANGES",
+        "DECISIONS",
+        "FORMATS",
+        "PERFORMANCE",
+        "PROVING",
+    ] {
+        texts.push(b'\n');
+        texts.extend(data(&format!("../docs/{}.md", name))?);
+    }
+    let runs = texts.split(|byte| !byte.is_ascii_alphabetic());
+    let all: BTreeSet<&[u8]> = runs.filter(|word| !word.is_empty()).collect();
+    demand(all.len() > 1_500, || format!("{} words", all.len()))?;
+    run.once(|lab, rng| {
+        let mut breaks = 0;
+        let mut seen = Seen::default();
+        for word in &all {
+            lab.settle(rng);
+            breaks += good(lab, word, &mut seen)? >> 32;
+        }
+        demand(breaks > all.len() as u64 / 2, || {
+            format!("{} breaks", breaks)
+        })
     })
 }
 

@@ -153,6 +153,7 @@ pub fn all(options: &Options) -> Vec<Test> {
     add("archive-grounds", archive::grounds);
     add("archive-bytes-and-sizes", archive::bytes_and_sizes);
     add("archive-hostile", archive::hostile);
+    add("archive-prose", archive::prose);
     add("archive-same", archive::same);
     add("archive-figures", archive::figures);
     add("archive-wrapper", archive::wrapper);

@@ -7,11 +7,11 @@ use outside::make::layout::{render, Machine, Style};
 use outside::make::words;
 use outside::reference::right::Judge;
 use outside::reference::text::read_word;
-use outside::reference::PACK_ROOM;
+use outside::reference::{Seen, PACK_ROOM};
 use outside::rng::Rng;
 
 /// A data file; without it the test fails and says so.
-fn data(name: &str) -> Result<Vec<u8>, Mismatch> {
+pub fn data(name: &str) -> Result<Vec<u8>, Mismatch> {
     outside::data(name).map_err(|why| format!("  data/{}: {}", name, why))
 }
 
@@ -210,6 +210,7 @@ fn one_word(lab: &mut Lab, packed: &Packed, house: &[u8], word: &[u8]) -> Result
     }
     lab.lookup(word, b"", house)?;
     lab.hyphenate(2, 3, word, b"", house, &packed.table, 64)?;
+    lab.archive(word, 64, &mut Seen::default())?;
     Ok(())
 }
 
