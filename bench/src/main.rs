@@ -11,11 +11,12 @@
 //! With --count one side does one case once, over fewer of the same words, for
 //! callgrind to count its instructions.
 
+mod archive;
 mod handmade;
 
-use outside::make::{damage, exceptions, gauges, lists, random, words};
+use outside::make::{affixes, damage, exceptions, gauges, lists, random, words};
 use outside::reference::text::{read_patterns, write_patterns};
-use outside::reference::{self, Gauge, Pattern, PACK_ROOM, WIDTHS};
+use outside::reference::{self, Gauge, Pattern, Seen, PACK_ROOM, WIDTHS};
 use outside::rng::Rng;
 use std::time::Instant;
 use tteolmigu::raw;
@@ -320,6 +321,45 @@ fn fit<'a>(words: &'a [Vec<u8>], rooms: &'a [[u8; 64]]) -> Case<'a> {
     }
 }
 
+/// Demands equal answers and rooms of all three sides of the machine of 1980.
+fn compare_archive(words: &[Vec<u8>]) {
+    let mut rng = Rng::new(2_004);
+    let made = (0..200_000).map(|_| affixes::any(&mut rng));
+    let all: Vec<Vec<u8>> = words.iter().cloned().chain(made).collect();
+    for word in &all {
+        let mut rooms = [[7; 64]; 3];
+        let [ours, hand, plain] = &mut rooms;
+        let one = raw::archive(word, ours);
+        let other = archive::archive(word, hand);
+        let clear = reference::archive(word, plain, &mut Seen::default());
+        assert!(one == other && one == clear, "1980 {:?}", word);
+        assert!(
+            rooms[0] == rooms[1] && rooms[0] == rooms[2],
+            "1980 {:?}",
+            word
+        );
+    }
+}
+
+/// The machine of 1980 over all words.
+fn reprint(words: &[Vec<u8>]) -> Case<'_> {
+    let side = |call: fn(&[u8], &mut [u8]) -> u64| -> Work<'_> {
+        Box::new(move || {
+            let mut room = [0; 64];
+            sum(words, |word| call(word, &mut room))
+        })
+    };
+    Case {
+        name: "1980",
+        words: Some(words.len()),
+        sides: [
+            side(raw::archive),
+            side(archive::archive),
+            side(|word, room| reference::archive(word, room, &mut Seen::default())),
+        ],
+    }
+}
+
 /// The hyphenating call over all words.
 fn hyphenate<'a>(
     name: &'static str,
@@ -434,6 +474,7 @@ fn main() {
         pack(&text),
         check(&text, &table),
         fit(&words, &rooms),
+        reprint(&words),
     ];
     if let Some((name, side)) = counted {
         let case = cases.iter_mut().find(|case| case.name == name);
@@ -444,6 +485,7 @@ fn main() {
     compare(&words, &house, &text, &table);
     compare(few, &full, &text, &table);
     compare_widths(&words, &rooms);
+    compare_archive(&words);
     println!("{} words, {} rounds, answers agree", words.len(), rounds);
     println!(
         "{:>10} {:>10} {:>9}  {:<24} {:>17} {:>17} {:>17}",

@@ -534,7 +534,7 @@ pub fn prose(run: &mut Run) -> Result<(), Mismatch> {
             lab.settle(rng);
             breaks += good(lab, word, &mut seen)? >> 32;
         }
-        demand(breaks > all.len() as u64 / 2, || {
+        demand(breaks > all.len() as u64 / 5, || {
             format!("{} breaks", breaks)
         })
     })
