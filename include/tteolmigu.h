@@ -24,7 +24,7 @@
  * a double and no two operations become one; tests/floats holds it to that.
  *
  * Stack. Pack takes at most TTEOLMIGU_PACK_STACK bytes, 1980 at most TTEOLMIGU_1980_STACK and every other call at most
- * TTEOLMIGU_STACK, whatever texts and tables hold; as compiled today these are 18,764 bytes for pack, 2,000 for 1980, 568 for hyphenate,
+ * TTEOLMIGU_STACK, whatever texts and tables hold; as compiled today these are 18,764 bytes for pack, 1,136 for 1980, 568 for hyphenate,
  * 376 for levels, 348 for check, 252 for lookup and at most 64 for fit. No function calls itself, so that a chain of 2,048 entries
  * takes no more than a single entry. This isn't proved; tests/stack holds the archive to it, with the longest chains and the fullest
  * lists. Where a program's symbols are bound lazily, the loader takes stack of its own besides, once, at the first memset or memcpy.
@@ -107,7 +107,7 @@ extern "C" {
 /* Stack in bytes that a call takes at most: what tests/stack sees, with some air. */
 #define TTEOLMIGU_STACK 1024u        /* hyphenate, levels, check, lookup and fit */
 #define TTEOLMIGU_PACK_STACK 20480u  /* pack, which has its arrays there */
-#define TTEOLMIGU_1980_STACK 2560u   /* 1980, which has its tables there */
+#define TTEOLMIGU_1980_STACK 1536u   /* 1980, which has its tables there */
 
 /* The numbers of the grounds, as listed above. */
 enum tteolmigu_ground {

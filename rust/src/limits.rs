@@ -354,7 +354,7 @@ pub const STACK: usize = 1_024;
 pub const PACK_STACK: usize = 20_480;
 
 /// The bytes of stack that the machine of 1980 takes at most in the library.
-pub const STACK_1980: usize = 2_560;
+pub const STACK_1980: usize = 1_536;
 
 #[cfg(test)]
 pub(crate) mod tests {

@@ -4,6 +4,7 @@ use middle1980::Step;
 use sheet1980::clear_at;
 use sheet1980::code_at;
 use tables1980::has_bit;
+use tables1980::prefix_table;
 use tables1980::prefix_word;
 ghost use mathlib.Core.Path.{_≡_};
 ghost use mathlib.Core.Bool.{cond};
@@ -200,6 +201,7 @@ pub fn remove_prefixes(budget: usize, n: usize, sheet: &mut [u8]) -> Ran
     ensures answer { λ r. ⌜ told r (now (sheet .exit)) ≡ phase3 budget (now (sheet .entry)) ⌝ }
     ensures place { λ r. ⌜ Ready n r (now (sheet .exit)) ⌝ }
 {
+    let words = prefix_table();
     let mut left = budget;
     let first = code_at(sheet, sheet1980::U + 1);
     let mut turn = Turn::Row {
@@ -218,7 +220,7 @@ pub fn remove_prefixes(budget: usize, n: usize, sheet: &mut [u8]) -> Ran
                     return Ran::Out;
                 }
                 left -= 1;
-                let x = take_apart(prefix_word(pc));
+                let x = take_apart(prefix_word(&words, pc));
                 turn = interpret(i, c, j, sheet, x);
             }
         }

@@ -39,7 +39,7 @@ pub fn clear_at(sheet: &mut [u8], i: usize)
 pub fn is_vowel(c: u8) -> bool
     ensures { λ r. ⌜ r ≡ vowel c ⌝ }
 {
-    tables1980::has_bit(tables1980::suffix_word(0), c)
+    tables1980::has_bit(tables1980::vowel_word(), c)
 }
 
 // Writes a word on a sheet of its size.

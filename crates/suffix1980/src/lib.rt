@@ -1,7 +1,9 @@
 // Phase 2 of the 1980 machine: the removal of suffixes. CR 4. Names are 004's.
 use sheet1980::clear_at;
 use sheet1980::code_at;
+use tables1980::ROWS;
 use tables1980::has_bit;
+use tables1980::suffix_table;
 use tables1980::suffix_word;
 ghost use mathlib.Core.Path.{_≡_};
 ghost use mathlib.Core.Bool.{cond, not, _&&_, _||_};
@@ -9,7 +11,7 @@ ghost use Prim.Native.Nat.{_+_, _-_, _<_, _≤_};
 ghost use lib.Dec.{eqb};
 ghost use Rattle.base.specs.Limits.{wordLimit1980, shortWord1980};
 ghost use Rattle.tables1980.specs.Words.{o, _ε_};
-ghost use Rattle.tables1980.specs.Suffix.{suffix};
+ghost use Rattle.tables1980.specs.Suffix.{suffixWords, suffix};
 ghost use Rattle.sheet1980.specs.Sheet.{u, placeBound, mem, clear, Sheet};
 ghost use Rattle.suffix1980.specs.Suffixes.{decode, finalAt, restarts, marksuf, interps, phase2};
 ghost use Rattle.suffix1980.specs.Joined.{joined, Branched, told, Ready};
@@ -172,10 +174,11 @@ fn ends_in_ed(n: usize, sheet: &[u8]) -> bool
 }
 
 // Is the letter at a place one of the mask in a row?
-fn is_in_mask(sheet: &[u8], i: usize, t: u16) -> bool
+fn is_in_mask(words: &[u64; ROWS], sheet: &[u8], i: usize, t: u16) -> bool
+    requires { ⌜ now words ≡ suffixWords ⌝ }
     ensures { λ r. ⌜ r ≡ (mem (now (sheet .entry)) i ε suffix t) ⌝ }
 {
-    has_bit(suffix_word(t as usize), code_at(sheet, i))
+    has_bit(suffix_word(words, t as usize), code_at(sheet, i))
 }
 
 // Is the letter at a place like the one before it?
@@ -208,6 +211,7 @@ fn mark_letter(t: u16, firsttime: bool, i: usize, sheet: &mut [u8])
 
 // One instruction.
 fn interpret(
+    words: &[u64; ROWS],
     n: usize,
     i: usize,
     firsttime: bool,
@@ -215,7 +219,7 @@ fn interpret(
     sheet: &mut [u8],
     x: Instruction,
 ) -> Turn
-    requires { ⌜ (shortWord1980 < n) × (n ≤ wordLimit1980) × (1 ≤ i) × (i ≤ u + n) ⌝ }
+    requires { ⌜ (shortWord1980 < n) × (n ≤ wordLimit1980) × (1 ≤ i) × (i ≤ u + n) × (now words ≡ suffixWords) ⌝ }
     ensures { λ r. ⌜ joined r (now (sheet .exit)) ≡ interps n i firsttime finale (now (sheet .entry)) x ⌝ }
 {
     match x {
@@ -228,7 +232,7 @@ fn interpret(
             branch(matched, i, truex, falsex, firsttime, finale)
         }
         Instruction::Table { t, truex, falsex } => {
-            let matched = is_in_mask(sheet, i, t);
+            let matched = is_in_mask(words, sheet, i, t);
             branch(matched, i, truex, falsex, firsttime, finale)
         }
         Instruction::Check { truex, falsex } => {
@@ -289,6 +293,7 @@ pub fn remove_suffixes(budget: usize, n: usize, sheet: &mut [u8]) -> Ran
     ensures answer { λ r. ⌜ told r (now (sheet .exit)) ≡ phase2 budget n (now (sheet .entry)) ⌝ }
     ensures kept { λ r. ⌜ Ready n r (now (sheet .exit)) ⌝ }
 {
+    let words = suffix_table();
     let mut left = budget;
     let at = sheet1980::U + n - 1;
     let first = code_at(sheet, at + 1) as usize;
@@ -314,8 +319,8 @@ pub fn remove_suffixes(budget: usize, n: usize, sheet: &mut [u8]) -> Ran
                     return Ran::Out;
                 }
                 left -= 1;
-                let x = take_apart(suffix_word(pc));
-                turn = interpret(n, i, firsttime, finale, sheet, x);
+                let x = take_apart(suffix_word(&words, pc));
+                turn = interpret(&words, n, i, firsttime, finale, sheet, x);
             }
         }
     }

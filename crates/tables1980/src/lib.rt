@@ -2,12 +2,12 @@
 // CR 4. Each word has 36 bits. specs/ has the same tables in 004's own terms, and each reader's promise joins the two.
 ghost use mathlib.Core.Path.{_≡_};
 ghost use Rattle.tables1980.specs.Words.{_ε_};
-ghost use Rattle.tables1980.specs.Suffix.{suffix};
-ghost use Rattle.tables1980.specs.Prefix.{prefix};
+ghost use Rattle.tables1980.specs.Suffix.{suffixWords, suffix};
+ghost use Rattle.tables1980.specs.Prefix.{prefixWords, prefix};
 ghost use Rattle.tables1980.specs.Pairs.{btable};
 
 // How many rows each of the two machines has.
-const ROWS: usize = 109;
+pub const ROWS: usize = 109;
 
 // The pair table's rows stand for the codes from this one on, one for each.
 const FIRST_PAIR: usize = 2;
@@ -277,24 +277,47 @@ const PAIRS: [u64; PAIR_ROWS] = [
     0o0040602000_0_0, // 31, weak letters 5
 ];
 
+// The tables as values: a constant is built anew by every function that reads it, so whoever runs a machine asks for its table once and
+// lends it to the readers.
+pub fn suffix_table() -> [u64; ROWS]
+    ensures { λ r. ⌜ r ≡ suffixWords ⌝ }
+{
+    SUFFIX
+}
+
+pub fn prefix_table() -> [u64; ROWS]
+    ensures { λ r. ⌜ r ≡ prefixWords ⌝ }
+{
+    PREFIX
+}
+
 // The suffix machine's word of a row, 0 past the table.
-pub fn suffix_word(row: usize) -> u64
+pub fn suffix_word(words: &[u64; ROWS], row: usize) -> u64
+    requires { ⌜ now words ≡ suffixWords ⌝ }
     ensures { λ r. ⌜ r ≡ suffix row ⌝ }
 {
     if ROWS <= row {
         return 0;
     }
-    SUFFIX[row]
+    words[row]
 }
 
 // The prefix machine's word of a row, 0 past the table.
-pub fn prefix_word(row: usize) -> u64
+pub fn prefix_word(words: &[u64; ROWS], row: usize) -> u64
+    requires { ⌜ now words ≡ prefixWords ⌝ }
     ensures { λ r. ⌜ r ≡ prefix row ⌝ }
 {
     if ROWS <= row {
         return 0;
     }
-    PREFIX[row]
+    words[row]
+}
+
+// The mask of the vowels.
+pub fn vowel_word() -> u64
+    ensures { λ r. ⌜ r ≡ suffix 0 ⌝ }
+{
+    SUFFIX[0]
 }
 
 // The pair table's word of a code, 0 where it has none.

@@ -5,11 +5,11 @@ use Rattle.sheet1980.proofs.is_vowel.Tie as tie
 use Rattle.sheet1980.proofs.is_vowel.Reads as reads
 use Rattle.sheet1980.proofs.is_vowel.Lts as lts
 use Rattle.tables1980.proofs.has_bit.Reads as has-bit-reads
-use Rattle.tables1980.proofs.suffix_word.Reads as suffix-word-reads
+use Rattle.tables1980.proofs.vowel_word.Reads as vowel-word-reads
 
 -- src/lib.rt:42:25
-suffix-word-requires : tie.Need-suffix-word-requires
-suffix-word-requires c κs = search needs
+vowel-word-requires : tie.Need-vowel-word-requires
+vowel-word-requires c κs = search needs
 
 -- src/lib.rt:42:5
 has-bit-requires : tie.Need-has-bit-requires
@@ -20,4 +20,4 @@ returns : tie.Need-returns
 returns c = search law.is-vowel
 
 pub is-vowel-spec : {M : Type 1} → statement M
-is-vowel-spec = tie.close (tie.spec suffix-word-requires has-bit-requires returns)
+is-vowel-spec = tie.close (tie.spec vowel-word-requires has-bit-requires returns)

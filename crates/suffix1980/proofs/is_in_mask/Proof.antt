@@ -8,19 +8,19 @@ use Rattle.sheet1980.proofs.code_at.Reads as code-at-reads
 use Rattle.tables1980.proofs.has_bit.Reads as has-bit-reads
 use Rattle.tables1980.proofs.suffix_word.Reads as suffix-word-reads
 
--- src/lib.rt:178:13
+-- src/lib.rt:181:13
 suffix-word-requires : tie.Need-suffix-word-requires
 suffix-word-requires c κs = search needs
 
--- src/lib.rt:178:38
+-- src/lib.rt:181:45
 code-at-requires : tie.Need-code-at-requires
 code-at-requires c κs = search needs
 
--- src/lib.rt:178:5
+-- src/lib.rt:181:5
 has-bit-requires : tie.Need-has-bit-requires
 has-bit-requires c κs = search needs
 
--- src/lib.rt:175:1
+-- src/lib.rt:177:1
 returns : tie.Need-returns
 returns c = search law.masked
 
