@@ -1,14 +1,14 @@
 -- CR 4's figures: words with their breaks and the instructions executed, as another reading of 004 gives them, and what the call says of
 -- words at its edges; one table under one statement.
-use Prim.Native.Nat.{ℕ, zero, suc, _+_}
+use Prim.Native.Nat.{ℕ, suc, _+_}
 use Prim.Native.Char.{code}
 use Prim.Native.String.{String, [] as «empty», _∷_ as _then_}
 use mathlib.Core.Bool.{Bool, true, cond, _&&_}
 use mathlib.Core.List.{List, [], _∷_, _++_}
 use mathlib.Core.Path.{_≡_, refl}
 use lib.Dec.{eqb}
-use lib.ListN.{length, getD, replicate}
-use Rattle.base.specs.Limits.{budget1980, roomSize1980}
+use lib.ListN.{length, replicate}
+use Rattle.base.specs.Limits.{budget1980}
 use Rattle.base.specs.Grounds.{Said, Finds, Refuses, firstOf}
 use Rattle.base.specs.Tests.{sameList}
 use Rattle.rooms.specs.Rooms.{sheetFrom, sheet, nonzero}

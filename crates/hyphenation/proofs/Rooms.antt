@@ -5,14 +5,14 @@ use mathlib.Core.List.{List, [], _∷_}
 use mathlib.Core.Path.{_≡_, refl, sym, _∙_, ap}
 use native.Mathlib.Decide.{decLt}
 use native.Mathlib.Omega.{arith}
-use borrow.Author.Tests.{lt-ltb, le-ltb, ltb-true, ltb-false}
+use borrow.Author.Tests.{lt-ltb, le-ltb, ltb-true}
 use lib.Dec.{leb, ltb, eqb}
 use lib.ListN.{length, getD, take, drop, set, replicate, length-set}
 use lib.Seq.{paste, getD-set-same, getD-set-other}
 use Rattle.base.specs.Limits.{roomSize, wordLimit}
 use Rattle.rooms.specs.Rooms.{sheetFrom, sheet, written, bit}
 use Rattle.rooms.proofs.Marks.{put-start, put-turn, put-end, put-cleared}
-use Rattle.rooms.proofs.Sheets.{sheet-same, written-length, written-low, written-high, written-again, written-is, set-written}
+use Rattle.rooms.proofs.Sheets.{sheet-same, written-length, written-low, written-high, written-is}
 use Rattle.rooms.proofs.Laws.{copied-sheet}
 use Rattle.words.specs.Symbols.{hyphen}
 use Rattle.words.specs.Words.{rowOf, inner}

@@ -1,17 +1,15 @@
 -- No word runs out, and more budget than the bound changes nothing.
-use Prim.Native.Nat.{ℕ, suc, _+_, _*_, _-_, _<_, _≤_}
+use Prim.Native.Nat.{ℕ, _+_, _*_, _-_, _<_, _≤_}
 use mathlib.Core.Bool.{Bool, true, false, cond}
 use mathlib.Core.List.{List}
-use mathlib.Core.Path.{_≡_, refl, sym, _∙_, ap}
+use mathlib.Core.Path.{_≡_, refl, _∙_, ap}
 use native.Mathlib.Omega.{arith}
-use borrow.Author.Tests.{leb-true, leb-false, lt-leb}
+use borrow.Author.Tests.{leb-false}
 use lib.Dec.{leb}
 use lib.ListN.{length}
-use Rattle.base.specs.Limits.{wordLimit1980, shortWord1980, budget1980}
+use Rattle.base.specs.Limits.{wordLimit1980, shortWord1980}
 use Rattle.base.specs.declared.Check.the-variants.{Fine}
-use Rattle.base.proofs.Lists.{clash}
 use Rattle.words.specs.Words.{judgeWord}
-use Rattle.words.proofs.Laws.{word-fits}
 use Rattle.sheet1980.specs.Sheet.{u, mem, sheetOf, Sheet}
 use Rattle.suffix1980.specs.Suffixes.{infinity, sufbegin, Suffixed, phase2}
 use Rattle.suffix1980.specs.Suffixes as suffix
@@ -24,7 +22,6 @@ use Rattle.prefix1980.proofs.Budget as three-budget
 use Rattle.middle1980.specs.Middles.{phase4}
 use Rattle.machine1980.specs.Run.{Outcome, RanOut, Marked, fromPrefixes, fromSuffixes, run, machine}
 use Rattle.machine1980.proofs.Written.{written}
-use Rattle.machine1980.proofs.Laws.{ran, short-machine}
 
 -- more instructions than a word of n letters takes: phase 2 at most 24 n, phase 3 at most 8 n + 8
 abbrev pub mostExecuted : ℕ → ℕ

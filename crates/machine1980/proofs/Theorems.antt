@@ -1,6 +1,6 @@
 -- What follows for the customer.
 use Prim.Native.Nat.{ℕ, _+_, _*_, _-_, _<_, _≤_}
-use mathlib.Core.Bool.{Bool, true, false, cond, _&&_}
+use mathlib.Core.Bool.{true, _&&_}
 use mathlib.Core.List.{List, [], _∷_}
 use mathlib.Core.Path.{_≡_, refl, sym, _∙_, ap, subst}
 use native.Mathlib.Omega.{arith}
@@ -19,7 +19,7 @@ use Rattle.sheet1980.specs.Sheet.{u, sheetOf}
 use Rattle.suffix1980.specs.Suffixes.{infinity, sufbegin, rowsFetched, allInstructions}
 use Rattle.suffix1980.proofs.Masks.{no-mask-fetched}
 use Rattle.machine1980.specs.Run.{Outcome, RanOut, Marked, machine}
-use Rattle.machine1980.specs.Breaks.{shows, inPrint, isBreak, breakSheet}
+use Rattle.machine1980.specs.Breaks.{shows, inPrint, isBreak}
 use Rattle.machine1980.specs.Calls.{grounds1980, judge1980, answeredFound, ranOutFound, said1980, valuesOf, answer1980, roomLeft, room1980, Reprints}
 use Rattle.machine1980.specs.declared.Answer1980.{Answer1980}
 use Rattle.machine1980.specs.declared.Answer1980.the-variants as answers

@@ -3,7 +3,7 @@ use Prim.Native.Nat.{ℕ}
 use mathlib.Core.List.{List, [], _∷_}
 use mathlib.Core.Path.{_≡_}
 use lib.ListN.{length}
-use Rattle.base.specs.Limits.{wordLimit1980, roomSize1980, budget1980}
+use Rattle.base.specs.Limits.{wordLimit1980, roomSize1980}
 use Rattle.base.specs.Grounds.{told, Said, Finds, Refuses, Row, on, firstOf, first, refuseIf}
 use Rattle.base.specs.declared.Check.{Check}
 use Rattle.base.specs.declared.Ground.the-variants.{RoomShort}

@@ -1,16 +1,15 @@
 -- One law for each way through the code.
-use Prim.Native.Nat.{ℕ, suc, _+_, _-_, _/_, _%_, _^_, _<_, _≤_}
-use mathlib.Core.Bool.{Bool, true, false, cond, not, _&&_, _||_}
+use Prim.Native.Nat.{ℕ, _+_, _-_, _/_, _%_}
+use mathlib.Core.Bool.{Bool, true, false, not, _&&_, _||_}
 use mathlib.Core.List.{List}
-use mathlib.Core.Path.{_≡_, refl, sym, _∙_, ap}
-use native.Mathlib.Omega.{arith}
+use mathlib.Core.Path.{_≡_, refl, sym, _∙_}
 use borrow.Author.Tests.{eq-eqb, ne-eqb}
 use lib.Dec.{eqb}
 use Rattle.base.proofs.Lists.{both}
 use Rattle.tables1980.specs.Words.{o, _ε_}
-use Rattle.tables1980.specs.Pairs.{btable, hchar, weakOf}
+use Rattle.tables1980.specs.Pairs.{btable}
 use Rattle.sheet1980.specs.Sheet.{mem, clear, vowel}
-use Rattle.middle1980.specs.Middles.{Middle, Goto, Phase5, joinsH, withH, isPair, isWeak, liquid, doubled, endsInAge, endsInEst, weakly, paired, between, third, second, pair, endsInEr, markAt, scanVowel, passVowel, onward}
+use Rattle.middle1980.specs.Middles.{Goto, Phase5, joinsH, withH, isPair, isWeak, liquid, doubled, endsInAge, endsInEst, weakly, paired, between, third, second, pair, endsInEr, markAt, scanVowel, passVowel, onward}
 use Rattle.middle1980.specs.Joined.{joined, Joins}
 use Rattle.middle1980.specs.declared.Label.{Label}
 use Rattle.middle1980.specs.declared.Label.the-variants.{Marki, Phase4c, Vowelscan, Checkc, Phase4v, Phase4vc, Ertest}

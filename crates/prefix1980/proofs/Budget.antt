@@ -1,10 +1,8 @@
 -- More budget than is needed is left over.
 use Prim.Native.Nat.{ℕ, zero, suc, _+_, _≤_}
-use mathlib.Core.List.{List}
 use mathlib.Core.Path.{_≡_, refl, sym, _∙_, ap}
 use native.Mathlib.Omega.{arith}
 use Rattle.tables1980.specs.Prefix.{prefix}
-use Rattle.middle1980.specs.Middles.{Middle}
 use Rattle.prefix1980.specs.Prefixes.{Prefixes, Interpp, Stops, decode, interpp, Prefixed, RanOut, Stopped, prefixes}
 
 -- what is left of the budget

@@ -13,7 +13,7 @@ use Rattle.prefix1980.specs.Prefixes.{decode}
 use Rattle.prefix1980.specs.declared.Instruction.{Instruction}
 use Rattle.prefix1980.specs.declared.Instruction.the-variants.{Scan, Repeat, Mark, Table, Fail, Vow, Cons, Confusion}
 use Rattle.tables1980.proofs.Table.{every, at}
-use Rattle.tables1980.proofs.Heights.{goes, goes-right, goes-both, and-T, cond-true, letterRow, letter-right, inside}
+use Rattle.tables1980.proofs.Heights.{goes, goes-both, and-T, cond-true, letterRow, letter-right, inside}
 use Rattle.tables1980.proofs.Heights as runs
 
 pub heights : List ℕ

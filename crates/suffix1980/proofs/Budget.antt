@@ -1,6 +1,5 @@
 -- More budget than is needed is left over.
 use Prim.Native.Nat.{ℕ, zero, suc, _+_, _≤_}
-use mathlib.Core.List.{List}
 use mathlib.Core.Path.{_≡_, refl, sym, _∙_, ap}
 use native.Mathlib.Omega.{arith}
 use Rattle.tables1980.specs.Suffix.{suffix}

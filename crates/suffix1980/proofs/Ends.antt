@@ -1,12 +1,12 @@
 -- The suffix machine stops: what a step costs falls with each instruction.
 use Prim.Native.Nat.{ℕ, zero, suc, _+_, _*_, _-_, _%_, _<_, _≤_}
 use mathlib.Core.Bool.{Bool, true, false, cond, not, _&&_, _||_}
-use mathlib.Core.List.{List, [], _∷_}
+use mathlib.Core.List.{List}
 use mathlib.Core.Logic.{_⊎_, inl, inr}
-use mathlib.Core.Path.{_≡_, refl, sym, _∙_, ap, subst}
+use mathlib.Core.Path.{_≡_, sym, subst}
 use native.Mathlib.Omega.{arith}
-use borrow.Author.Tests.{leb-true, eqb-true, eq-eqb}
-use lib.Dec.{leb, ltb, eqb}
+use borrow.Author.Tests.{leb-true}
+use lib.Dec.{leb, eqb}
 use Rattle.base.proofs.Lists.{never, both}
 use Rattle.tables1980.specs.Words.{o, _ε_}
 use Rattle.tables1980.specs.Suffix.{suffix}
@@ -14,7 +14,7 @@ use Rattle.sheet1980.specs.Sheet.{u, mem, clear, Sheet}
 use Rattle.suffix1980.specs.declared.Instruction.{Instruction}
 use Rattle.suffix1980.specs.declared.Instruction.the-variants.{Scan, Double, Table, Check, Success, Fail, Repeat, Again, Mark, Efail, Confusion}
 use Rattle.suffix1980.specs.Suffixes.{decode}
-use Rattle.suffix1980.specs.Suffixes.{Suffixes, Interps, Phase3, finalAt, sufbegin, restarts, marksuf, interps, infinity, edRemoved, Suffixed, RanOut, Stopped, suffixes, phase2}
+use Rattle.suffix1980.specs.Suffixes.{Suffixes, Interps, Phase3, sufbegin, restarts, marksuf, interps, infinity, edRemoved, Suffixed, RanOut, Stopped, suffixes, phase2}
 use Rattle.sheet1980.proofs.Sheets.{clear-either, clear-same, clear-sheet, either-way}
 use Rattle.suffix1980.proofs.Rows.{height, credit, Goes, Sound, row-sound, row-low, letter-row}
 

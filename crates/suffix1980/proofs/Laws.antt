@@ -1,19 +1,18 @@
 -- One law for each way through the code.
-use Prim.Native.Nat.{ℕ, zero, suc, _+_, _-_, _/_, _%_, _^_, _<_, _≤_}
+use Prim.Native.Nat.{ℕ, _+_, _-_, _/_, _%_, _^_, _<_, _≤_}
 use mathlib.Core.Bool.{Bool, true, false, cond, not, _&&_, _||_}
-use mathlib.Core.List.{List, [], _∷_}
-use mathlib.Core.Path.{_≡_, refl, sym, _∙_, ap, subst}
-use native.Mathlib.Omega.{arith}
+use mathlib.Core.List.{List}
+use mathlib.Core.Path.{_≡_, sym, _∙_, ap}
 use borrow.Author.Tests.{lt-leb, le-leb, eq-eqb, ne-eqb}
-use lib.Dec.{leb, ltb, eqb}
-use Rattle.tables1980.specs.Words.{_ε_, opcode, truex, falsex, oprand}
+use lib.Dec.{eqb}
+use Rattle.tables1980.specs.Words.{_ε_, opcode}
 use Rattle.tables1980.specs.Suffix.{suffix}
 use Rattle.sheet1980.specs.Sheet.{u, mem, clear}
 use Rattle.suffix1980.specs.declared.Instruction.{Instruction}
 use Rattle.suffix1980.specs.declared.Instruction.the-variants.{Scan, Double, Table, Check, Success, Fail, Repeat, Again, Mark, Efail, Confusion}
-use Rattle.suffix1980.specs.Suffixes.{infinity, edRemoved, Suffixes, Interps, Phase3, byOpcode, decode, finalAt, restarts, marksuf, interps}
+use Rattle.suffix1980.specs.Suffixes.{infinity, edRemoved, Interps, Phase3, byOpcode, decode, finalAt, restarts, marksuf, interps}
 use Rattle.suffix1980.specs.declared.Turn.{Turn}
-use Rattle.suffix1980.specs.declared.Turn.the-variants.{Row, Done}
+use Rattle.suffix1980.specs.declared.Turn.the-variants.{Row}
 use Rattle.suffix1980.specs.Joined.{joined, Branched}
 
 -- an instruction word taken apart, by the opcode that it has; and one that has none

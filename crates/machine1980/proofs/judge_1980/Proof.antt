@@ -6,26 +6,12 @@ use Rattle.machine1980.proofs.Order.{ordered-1980}
 use Rattle.machine1980.proofs.Laws as law
 use Rattle.machine1980.proofs.judge_1980.Statement.{statement}
 use Rattle.machine1980.proofs.judge_1980.Tie as tie
-use Rattle.machine1980.proofs.judge_1980.Reads as reads
-use Rattle.machine1980.proofs.judge_1980.Lts as lts
-use Rattle.rooms.proofs.is_short.Reads as is-short-reads
-use Rattle.words.proofs.judge_word.Reads as judge-word-reads
 
--- src/lib.rt:51:8
-is-short-requires : tie.Need-is-short-requires
-is-short-requires c κs = search needs
-
--- src/lib.rt:52:9
 returns : tie.Need-returns
 returns c = said-by (ordered-1980 _ _) (law.judge-short _ _ (c .before .is-short .ensures) (c .if1 .taken))
 
--- src/lib.rt:54:5
-judge-word-requires : tie.Need-judge-word-requires
-judge-word-requires c κs = search needs
-
--- src/lib.rt:48:1
 returns-2 : tie.Need-returns-2
 returns-2 c = said-by (ordered-1980 _ _) (judged-by (word-ordered _ _) (c .judge-word .ensures) ∙ law.judge-on _ _ (c .before .before .is-short .ensures) (c .before .if1 .left))
 
 pub judge-1980-spec : {M : Type 1} → statement M
-judge-1980-spec = tie.close (tie.spec is-short-requires returns judge-word-requires returns-2)
+judge-1980-spec = tie.close (tie.spec (λ c κs. search needs) returns (λ c κs. search needs) returns-2)

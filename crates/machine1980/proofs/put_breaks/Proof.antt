@@ -12,11 +12,6 @@ use Rattle.machine1980.specs.Breaks.{isBreak, breakSheet}
 use Rattle.machine1980.proofs.Laws as law
 use Rattle.machine1980.proofs.put_breaks.Statement.{statement}
 use Rattle.machine1980.proofs.put_breaks.Tie as tie
-use Rattle.machine1980.proofs.put_breaks.Reads as reads
-use Rattle.machine1980.proofs.put_breaks.Lts as lts
-use Rattle.machine1980.proofs.bit_of.Reads as bit-of-reads
-use Rattle.machine1980.proofs.is_shown.Reads as is-shown-reads
-use Rattle.rooms.proofs.clear_from.Reads as clear-from-reads
 
 abbrev Inv-loop : tie.InvT-loop
 Inv-loop n finale sheet room₀ gap₀ room gap = (2 ≤ gap) × (gap ≤ roomSize1980) × (length room ≡ length room₀) × (roomSize1980 ≤ length room₀) × (room ≡ written roomSize1980 (marks.sheet roomSize1980 (below roomSize1980 (isBreak n finale sheet) gap)) room₀)
@@ -24,11 +19,6 @@ Inv-loop n finale sheet room₀ gap₀ room gap = (2 ≤ gap) × (gap ≤ roomSi
 abbrev μ-loop : tie.MeasureT-loop
 μ-loop n finale sheet room₀ gap₀ room gap = n + 1 - gap
 
--- src/lib.rt:114:5
-clear-from-requires : tie.Need-clear-from-requires Inv-loop μ-loop
-clear-from-requires c κs = search needs
-
--- src/lib.rt:116:5
 loop-holds : tie.Need-loop-holds Inv-loop μ-loop
 loop-holds c =
     let k = c .before .before .before .before .before .before .args in (
@@ -39,35 +29,6 @@ loop-holds c =
       put-start roomSize1980 (isBreak (k .n) (k .finale) (k .sheet .now)) 2 (k .room .now) _ (λ j h. law.break-before (k .n) (k .finale) (k .sheet .now) j h) (c .before .before .clear-from .ensures ∙ cleared-sheet _ _),
     )
 
--- src/lib.rt:116:11
-add-loop : tie.Need-add-loop Inv-loop μ-loop
-add-loop c = search needs
-
--- src/lib.rt:117:52
-add-is-shown : tie.Need-add-is-shown Inv-loop μ-loop
-add-is-shown c = search needs
-
--- src/lib.rt:117:28
-is-shown-requires : tie.Need-is-shown-requires Inv-loop μ-loop
-is-shown-requires c κs = search needs
-
--- src/lib.rt:117:21
-bit-of-requires : tie.Need-bit-of-requires Inv-loop μ-loop
-bit-of-requires c κs = search needs
-
--- src/lib.rt:117:9
-slice-write-room : tie.Need-slice-write-room Inv-loop μ-loop
-slice-write-room c = search needs
-
--- src/lib.rt:118:9
-add-gap : tie.Need-add-gap Inv-loop μ-loop
-add-gap c = search needs
-
--- src/lib.rt:116:5
-loop-less : tie.Need-loop-less Inv-loop μ-loop
-loop-less c = search needs
-
--- src/lib.rt:116:5
 loop-again : tie.Need-loop-again Inv-loop μ-loop
 loop-again c =
     let k = c .before .before .before .before .before .before .before .before .before .before in
@@ -81,11 +42,6 @@ loop-again c =
           (law.break-here (k .args .n) (k .args .finale) (k .args .sheet .now) (l .gap) (l .inv .0) (c .before .before .loop-test .taken) (c .before .is-shown .ensures) (c .bit-of .ensures)),
     )
 
--- src/lib.rt:110:1
-same-length : tie.Need-same-length Inv-loop μ-loop
-same-length c = search needs
-
--- src/lib.rt:110:1
 returns : tie.Need-returns Inv-loop μ-loop
 unfolding breakSheet
 returns c =
@@ -101,15 +57,15 @@ put-breaks-spec =
     (tie.spec
     Inv-loop
     μ-loop
-    clear-from-requires
+    (λ c κs. search needs)
     loop-holds
-    add-loop
-    add-is-shown
-    is-shown-requires
-    bit-of-requires
-    slice-write-room
-    add-gap
-    loop-less
+    (λ c. search needs)
+    (λ c. search needs)
+    (λ c κs. search needs)
+    (λ c κs. search needs)
+    (λ c. search needs)
+    (λ c. search needs)
+    (λ c. search needs)
     loop-again
-    same-length
+    (λ c. search needs)
     returns)

@@ -2,24 +2,7 @@ use borrow.Author.Needs.{needs}
 use Rattle.machine1980.proofs.Laws as law
 use Rattle.machine1980.proofs.run_machine.Statement.{statement}
 use Rattle.machine1980.proofs.run_machine.Tie as tie
-use Rattle.machine1980.proofs.run_machine.Reads as reads
-use Rattle.machine1980.proofs.run_machine.Lts as lts
-use Rattle.machine1980.proofs.run_on.Reads as run-on-reads
-use Rattle.suffix1980.proofs.remove_suffixes.Reads as remove-suffixes-reads
 
--- src/lib.rt:79:11
-remove-suffixes-requires : tie.Need-remove-suffixes-requires
-remove-suffixes-requires c κs = search needs
-
--- src/lib.rt:80:33
-enum-told : tie.Need-enum-told
-enum-told c = search needs
-
--- src/lib.rt:81:36
-enum-known-left : tie.Need-enum-known-left
-enum-known-left c = search needs
-
--- src/lib.rt:81:54
 run-on-requires : tie.Need-run-on-requires
 run-on-requires c κs =
     let k = c .before .before .before .before .before .before .before .before .before in
@@ -31,21 +14,11 @@ run-on-requires c κs =
       law.suffix-sheet (k .args .budget) (k .args .n) (k .args .sheet .now) _ (r .ensures .0) _ _ e (r .ensures .1),
     )
 
--- src/lib.rt:75:1
-same-length : tie.Need-same-length
-same-length c = search needs
-
--- src/lib.rt:75:1
 returns : tie.Need-returns
 returns c =
     let k = c .before .before .before .before .before .before .before .args in
     law.suffix-out (k .budget) (k .n) (k .sheet .now) _ (c .before .before .before .before .remove-suffixes .ensures .0) (c .enum-told .given .1)
 
--- src/lib.rt:75:1
-same-length-2 : tie.Need-same-length-2
-same-length-2 c = search needs
-
--- src/lib.rt:75:1
 returns-2 : tie.Need-returns-2
 returns-2 c =
     let k = c .before .before .before .before .before .before .before .before .before .before .before .before .args in
@@ -55,11 +28,11 @@ pub run-machine-spec : {M : Type 1} → statement M
 run-machine-spec =
     tie.close
     (tie.spec
-    remove-suffixes-requires
-    enum-told
-    enum-known-left
+    (λ c κs. search needs)
+    (λ c. search needs)
+    (λ c. search needs)
     run-on-requires
-    same-length
+    (λ c. search needs)
     returns
-    same-length-2
+    (λ c. search needs)
     returns-2)

@@ -3,24 +3,7 @@ use native.Mathlib.Omega.{arith}
 use Rattle.machine1980.proofs.Laws as law
 use Rattle.machine1980.proofs.run_on.Statement.{statement}
 use Rattle.machine1980.proofs.run_on.Tie as tie
-use Rattle.machine1980.proofs.run_on.Reads as reads
-use Rattle.machine1980.proofs.run_on.Lts as lts
-use Rattle.middle1980.proofs.mark_middle.Reads as mark-middle-reads
-use Rattle.prefix1980.proofs.remove_prefixes.Reads as remove-prefixes-reads
 
--- src/lib.rt:62:11
-remove-prefixes-requires : tie.Need-remove-prefixes-requires
-remove-prefixes-requires c κs = search needs
-
--- src/lib.rt:63:33
-enum-told : tie.Need-enum-told
-enum-told c = search needs
-
--- src/lib.rt:64:42
-enum-known-rest : tie.Need-enum-known-rest
-enum-known-rest c = search needs
-
--- src/lib.rt:65:13
 mark-middle-requires : tie.Need-mark-middle-requires
 mark-middle-requires c κs =
     let k = c .before .before .before .before .before .before .before .before .before in
@@ -28,28 +11,17 @@ mark-middle-requires c κs =
     let z = law.prefix-ready (k .args .budget) (k .args .left) (k .args .finale) (k .args .n) (k .args .sheet .now) _ (r .ensures .0) _ _ (c .before .before .rest .given .1) (r .ensures .1) in
     (k .pre .2, z .0, z .1)
 
--- src/lib.rt:68:27
 sub-t15 : tie.Need-sub-t15
 sub-t15 c =
     let k = c .before .before .before .before .before .before .before .before .before .before .before .before in
     let r = c .before .before .before .before .before .before .before .before .before .remove-prefixes in
     omega (arith, k .pre .0, law.prefix-rest (k .args .budget) (k .args .left) (k .args .finale) (k .args .n) (k .args .sheet .now) _ (r .ensures .0) _ _ (c .before .before .before .before .before .rest .given .1))
 
--- src/lib.rt:58:1
-same-length : tie.Need-same-length
-same-length c = search needs
-
--- src/lib.rt:58:1
 returns : tie.Need-returns
 returns c =
     let k = c .before .before .before .before .before .before .before .args in
     law.prefix-out (k .budget) (k .left) (k .finale) (k .n) (k .sheet .now) _ (c .before .before .before .before .remove-prefixes .ensures .0) (c .enum-told .given .1)
 
--- src/lib.rt:58:1
-same-length-2 : tie.Need-same-length-2
-same-length-2 c = search needs
-
--- src/lib.rt:58:1
 returns-2 : tie.Need-returns-2
 returns-2 c =
     let k = c .before .before .before .before .before .before .before .before .before .before .before .before .args in
@@ -59,12 +31,12 @@ pub run-on-spec : {M : Type 1} → statement M
 run-on-spec =
     tie.close
     (tie.spec
-    remove-prefixes-requires
-    enum-told
-    enum-known-rest
+    (λ c κs. search needs)
+    (λ c. search needs)
+    (λ c. search needs)
     mark-middle-requires
     sub-t15
-    same-length
+    (λ c. search needs)
     returns
-    same-length-2
+    (λ c. search needs)
     returns-2)

@@ -1,15 +1,10 @@
-use borrow.Author.Needs.{needs}
 use Rattle.middle1980.proofs.Laws as law
 use Rattle.middle1980.proofs.are.Statement.{statement}
 use Rattle.middle1980.proofs.are.Tie as tie
-use Rattle.middle1980.proofs.are.Reads as reads
-use Rattle.middle1980.proofs.are.Lts as lts
 
--- src/lib.rt:239:9
 returns : tie.Need-returns
 returns c = search law.are-not
 
--- src/lib.rt:235:1
 returns-2 : tie.Need-returns-2
 returns-2 c = search law.are-both
 

@@ -6,9 +6,6 @@ use Rattle.middle1980.specs.Joined.{joined}
 use Rattle.middle1980.proofs.Going.{Going, stepsLeft, start, stopped, low, high, turned, less}
 use Rattle.middle1980.proofs.mark_middle.Statement.{statement}
 use Rattle.middle1980.proofs.mark_middle.Tie as tie
-use Rattle.middle1980.proofs.mark_middle.Reads as reads
-use Rattle.middle1980.proofs.mark_middle.Lts as lts
-use Rattle.middle1980.proofs.go_onward.Reads as go-onward-reads
 
 abbrev Inv-loop : tie.InvT-loop
 Inv-loop finale n sheet₀ step₀ sheet step = Going finale n (joined step₀ sheet₀) step sheet × (length sheet ≡ length sheet₀)
@@ -16,30 +13,15 @@ Inv-loop finale n sheet₀ step₀ sheet step = Going finale n (joined step₀ s
 abbrev μ-loop : tie.MeasureT-loop
 μ-loop finale n sheet₀ step₀ sheet step = stepsLeft n step
 
--- src/lib.rt:429:5
 loop-holds : tie.Need-loop-holds Inv-loop μ-loop
 loop-holds c = let k = c .before in (start (k .args .finale) (k .args .n) (k .args .from) (k .args .sheet .now) (k .pre .1) (k .pre .2), refl)
 
--- src/lib.rt:432:17
-enum-told : tie.Need-enum-told Inv-loop μ-loop
-enum-told c = search needs
-
--- src/lib.rt:432:17
-same-length : tie.Need-same-length Inv-loop μ-loop
-same-length c = search needs
-
--- src/lib.rt:432:17
 returns : tie.Need-returns Inv-loop μ-loop
 returns c =
     let k = c .before .before .before .before .args in
     let l = c .before .before .loop in
     stopped (k .finale) (k .n) (joined (k .from) (k .sheet .now)) (l .sheet) (c .enum-told .given .1) (l .inv .0)
 
--- src/lib.rt:434:26
-enum-known-step : tie.Need-enum-known-step Inv-loop μ-loop
-enum-known-step c = search needs
-
--- src/lib.rt:435:17
 go-onward-requires : tie.Need-go-onward-requires Inv-loop μ-loop
 go-onward-requires c κs =
     let k = c .before .before .before .before .before .before in
@@ -50,7 +32,6 @@ go-onward-requires c κs =
       omega (arith, k .pre .0, high (k .args .finale) (k .args .n) whole _ _ _ _ (l .sheet) (l .step) e (l .inv .0)),
     )
 
--- src/lib.rt:429:5
 loop-less : tie.Need-loop-less Inv-loop μ-loop
 loop-less c =
     let k = c .before .before .before .before .before .before .before .before .before .args in
@@ -58,7 +39,6 @@ loop-less c =
     let r = c .before .before .go-onward in
     less (k .finale) (k .n) (joined (k .from) (k .sheet .now)) _ _ _ _ (l .sheet) (l .step) (c .before .before .before .before .before .step .given .1) (l .inv .0) (r .result) _ (r .ensures)
 
--- src/lib.rt:429:5
 loop-again : tie.Need-loop-again Inv-loop μ-loop
 loop-again c =
     let k = c .before .before .before .before .before .before .before .before .before .args in
@@ -75,10 +55,10 @@ mark-middle-spec =
     Inv-loop
     μ-loop
     loop-holds
-    enum-told
-    same-length
+    (λ c. search needs)
+    (λ c. search needs)
     returns
-    enum-known-step
+    (λ c. search needs)
     go-onward-requires
     loop-less
     loop-again)

@@ -1,15 +1,10 @@
-use borrow.Author.Needs.{needs}
 use Rattle.suffix1980.proofs.Laws as law
 use Rattle.suffix1980.proofs.is_marked.Statement.{statement}
 use Rattle.suffix1980.proofs.is_marked.Tie as tie
-use Rattle.suffix1980.proofs.is_marked.Reads as reads
-use Rattle.suffix1980.proofs.is_marked.Lts as lts
 
--- src/lib.rt:186:9
 returns : tie.Need-returns
 returns c = search law.marks-other
 
--- src/lib.rt:182:1
 returns-2 : tie.Need-returns-2
 returns-2 c = search law.marks-zero
 

@@ -2,10 +2,7 @@ use mathlib.Core.Path.{refl}
 use Rattle.tables1980.specs.Prefix.{prefixWords}
 use Rattle.tables1980.proofs.prefix_table.Statement.{statement}
 use Rattle.tables1980.proofs.prefix_table.Tie as tie
-use Rattle.tables1980.proofs.prefix_table.Reads as reads
-use Rattle.tables1980.proofs.prefix_table.Lts as lts
 
--- src/lib.rt:288:1
 returns : tie.Need-returns
 unfolding prefixWords
 returns c = refl

@@ -2,10 +2,7 @@ use mathlib.Core.Path.{refl}
 use Rattle.tables1980.specs.Suffix.{suffixWords}
 use Rattle.tables1980.proofs.suffix_table.Statement.{statement}
 use Rattle.tables1980.proofs.suffix_table.Tie as tie
-use Rattle.tables1980.proofs.suffix_table.Reads as reads
-use Rattle.tables1980.proofs.suffix_table.Lts as lts
 
--- src/lib.rt:282:1
 returns : tie.Need-returns
 unfolding suffixWords
 returns c = refl
