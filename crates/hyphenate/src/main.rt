@@ -217,7 +217,7 @@ fn take_words<'a>(
 // The last line.
 fn print_sums(words: u64, refused: u64, probes: u64) {
     let mut line = [0u8; report::LINE_LIMIT];
-    let end = report::put_sums(words, refused, probes, &mut line, 0);
+    let end = report::put_sums(words, refused, b" probes", probes, &mut line, 0);
     write_lines(&line[0..end], false);
 }
 

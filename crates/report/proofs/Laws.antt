@@ -9,7 +9,7 @@ use Rattle.writing.specs.Put.{Put}
 use Rattle.writing.specs.Writing.{field, counted, hyphenated}
 use Rattle.writing.proofs.Going.{Going, go-start, go-fits, go-step, go-end, go-last, first-fits, second-fits, both-put}
 use Rattle.words.specs.Symbols.{lineFeed, hyphen}
-use Rattle.report.specs.Report.{listField, toldLine, wordsLabel, refusedLabel, probesLabel, sumsLine}
+use Rattle.report.specs.Report.{listField, toldLine, wordsLabel, refusedLabel, sumsLine}
 
 -- a list's number
 pub list-none : (list at : ℕ) (room : List ℕ) → list ≡ 0 → at + length (listField list) ≤ length room → Put (listField list) at room at room
@@ -74,33 +74,33 @@ module _ (marks word : List ℕ) (at : ℕ) (room : List ℕ) (h : at + length (
     line-put = both-put (hyphenated (hyphen ∷ []) marks word) (lineFeed ∷ []) refl at room h p
 
 -- the last line, part by part
-module _ (words refused probes at : ℕ) (room : List ℕ) (h : at + length (sumsLine words refused probes) ≤ length room) where
-  sums₀ : Going (sumsLine words refused probes) at room (sumsLine words refused probes) at room
-  sums₀ = go-start (sumsLine words refused probes) at room h
+module _ (words refused : ℕ) (label : List ℕ) (sum at : ℕ) (room : List ℕ) (h : at + length (sumsLine words refused label sum) ≤ length room) where
+  sums₀ : Going (sumsLine words refused label sum) at room (sumsLine words refused label sum) at room
+  sums₀ = go-start (sumsLine words refused label sum) at room h
 
   pub words-fit : at + length (counted wordsLabel words) ≤ length room
-  words-fit = go-fits room (counted wordsLabel words) (counted refusedLabel refused ++ (counted probesLabel probes ++ (lineFeed ∷ []))) refl sums₀
+  words-fit = go-fits room (counted wordsLabel words) (counted refusedLabel refused ++ (counted label sum ++ (lineFeed ∷ []))) refl sums₀
 
   module _ {end₁ : ℕ} {room₁ : List ℕ} (p₁ : Put (counted wordsLabel words) at room end₁ room₁) where
-    sums₁ : Going (sumsLine words refused probes) at room (counted refusedLabel refused ++ (counted probesLabel probes ++ (lineFeed ∷ []))) end₁ room₁
-    sums₁ = go-step room (counted wordsLabel words) (counted refusedLabel refused ++ (counted probesLabel probes ++ (lineFeed ∷ []))) refl sums₀ p₁
+    sums₁ : Going (sumsLine words refused label sum) at room (counted refusedLabel refused ++ (counted label sum ++ (lineFeed ∷ []))) end₁ room₁
+    sums₁ = go-step room (counted wordsLabel words) (counted refusedLabel refused ++ (counted label sum ++ (lineFeed ∷ []))) refl sums₀ p₁
 
     pub refused-fit : end₁ + length (counted refusedLabel refused) ≤ length room₁
-    refused-fit = go-fits room₁ (counted refusedLabel refused) (counted probesLabel probes ++ (lineFeed ∷ [])) refl sums₁
+    refused-fit = go-fits room₁ (counted refusedLabel refused) (counted label sum ++ (lineFeed ∷ [])) refl sums₁
 
     module _ {end₂ : ℕ} {room₂ : List ℕ} (p₂ : Put (counted refusedLabel refused) end₁ room₁ end₂ room₂) where
-      sums₂ : Going (sumsLine words refused probes) at room (counted probesLabel probes ++ (lineFeed ∷ [])) end₂ room₂
-      sums₂ = go-step room₁ (counted refusedLabel refused) (counted probesLabel probes ++ (lineFeed ∷ [])) refl sums₁ p₂
+      sums₂ : Going (sumsLine words refused label sum) at room (counted label sum ++ (lineFeed ∷ [])) end₂ room₂
+      sums₂ = go-step room₁ (counted refusedLabel refused) (counted label sum ++ (lineFeed ∷ [])) refl sums₁ p₂
 
-      pub probes-fit : end₂ + length (counted probesLabel probes) ≤ length room₂
-      probes-fit = go-fits room₂ (counted probesLabel probes) (lineFeed ∷ []) refl sums₂
+      pub sum-fits : end₂ + length (counted label sum) ≤ length room₂
+      sum-fits = go-fits room₂ (counted label sum) (lineFeed ∷ []) refl sums₂
 
-      module _ {end₃ : ℕ} {room₃ : List ℕ} (p₃ : Put (counted probesLabel probes) end₂ room₂ end₃ room₃) where
-        sums₃ : Going (sumsLine words refused probes) at room (lineFeed ∷ []) end₃ room₃
-        sums₃ = go-step room₂ (counted probesLabel probes) (lineFeed ∷ []) refl sums₂ p₃
+      module _ {end₃ : ℕ} {room₃ : List ℕ} (p₃ : Put (counted label sum) end₂ room₂ end₃ room₃) where
+        sums₃ : Going (sumsLine words refused label sum) at room (lineFeed ∷ []) end₃ room₃
+        sums₃ = go-step room₂ (counted label sum) (lineFeed ∷ []) refl sums₂ p₃
 
         pub sums-end-fits : end₃ + 1 ≤ length room₃
         sums-end-fits = go-fits room₃ (lineFeed ∷ []) [] refl sums₃
 
-        pub sums-put : {end : ℕ} {after : List ℕ} → Put (lineFeed ∷ []) end₃ room₃ end after → Put (sumsLine words refused probes) at room end after
+        pub sums-put : {end : ℕ} {after : List ℕ} → Put (lineFeed ∷ []) end₃ room₃ end after → Put (sumsLine words refused label sum) at room end after
         sums-put p₄ = go-last sums₃ p₄

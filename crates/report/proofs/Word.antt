@@ -27,28 +27,26 @@ use Rattle.words.proofs.Laws.{word-fits}
 use Rattle.hyphenation.proofs.Order.{word-alone-ordered, computed}
 use Rattle.hyphenation.proofs.Calls.{word-alone-sizes}
 use Rattle.hyphenation.proofs.Theorems.{finding}
-use Rattle.report.specs.Report.{listField, refusalLine, wordLine, lineLimit, lineFor, Reports, wordsLabel, refusedLabel, probesLabel, sumsLine}
+use Rattle.report.specs.Report.{listField, toldLine, refusalLine, wordLine, lineLimit, lineFor, Reports, wordsLabel, refusedLabel, sumsLine}
 
 list-short : (list : ℕ) → length (listField list) ≤ 21
 list-short list = either-short (eqb list 0) [] (field list) 21 (omega arith) (omega (arith, digits-short 19 list))
 
-refusal-short : (sign : ℕ) (g : Ground) → length (refusalLine sign g) ≤ lineLimit
-refusal-short sign g =
-    let n = digits-short 19 (told g .number) in
-    let l = list-short (told g .list) in
-    let p = digits-short 19 (told g .place) in
+-- a sign, three numbers and the line feed
+pub told-short : (sign number list place : ℕ) → length (toldLine sign number list place) ≤ 65
+told-short sign number list place =
     omega (
       arith,
-      n,
-      l,
-      p,
-      length-append (field (told g .number)) (listField (told g .list) ++ (field (told g .place) ++ (lineFeed ∷ []))),
-      length-append (listField (told g .list)) (field (told g .place) ++ (lineFeed ∷ [])),
-      length-append (field (told g .place)) (lineFeed ∷ []),
+      digits-short 19 number,
+      list-short list,
+      digits-short 19 place,
+      length-append (field number) (listField list ++ (field place ++ (lineFeed ∷ []))),
+      length-append (listField list) (field place ++ (lineFeed ∷ [])),
+      length-append (field place) (lineFeed ∷ []),
     )
 
 pub refusal-fits : (sign : ℕ) (g : Ground) (at n : ℕ) → at + lineLimit ≤ n → at + length (refusalLine sign g) ≤ n
-refusal-fits sign g at n h = omega (arith, refusal-short sign g)
+refusal-fits sign g at n h = omega (arith, told-short sign (told g .number) (told g .list) (told g .place))
 
 -- every line of a word has at most this many bytes, whatever the call answers
 line-short : (left right : ℕ) (word customer house table : List ℕ) (size : ℕ) → length (lineFor left right word customer house table size) ≤ lineLimit
@@ -63,21 +61,22 @@ line-short left right word customer house table size = go (judgeWordAlone word s
           word-short (hyphen ∷ []) (breaksSheet left right word customer house table) word,
           length-append (hyphenated (hyphen ∷ []) (breaksSheet left right word customer house table) word) (lineFeed ∷ []),
         )
-    go (Refused g) e = refusal-short question g
+    go (Refused g) e = omega (arith, told-short question (told g .number) (told g .list) (told g .place))
 
 pub line-fits : (left right : ℕ) (word customer house table : List ℕ) (size at n : ℕ) → at + lineLimit ≤ n → at + length (lineFor left right word customer house table size) ≤ n
 line-fits left right word customer house table size at n h = omega (arith, line-short left right word customer house table size)
 
-pub sums-fit : (words refused probes at n : ℕ) → at + lineLimit ≤ n → at + length (sumsLine words refused probes) ≤ n
-sums-fit words refused probes at n h =
+-- beside the last label, 13 bytes of labels, three numbers of 21 with their spaces, and the line feed
+pub sums-fit : (words refused : ℕ) (label : List ℕ) (sum at n : ℕ) → at + 77 + length label ≤ n → at + length (sumsLine words refused label sum) ≤ n
+sums-fit words refused label sum at n h =
     omega (
       arith,
       counted-short wordsLabel words,
       counted-short refusedLabel refused,
-      counted-short probesLabel probes,
-      length-append (counted wordsLabel words) (counted refusedLabel refused ++ (counted probesLabel probes ++ (lineFeed ∷ []))),
-      length-append (counted refusedLabel refused) (counted probesLabel probes ++ (lineFeed ∷ [])),
-      length-append (counted probesLabel probes) (lineFeed ∷ []),
+      counted-short label sum,
+      length-append (counted wordsLabel words) (counted refusedLabel refused ++ (counted label sum ++ (lineFeed ∷ []))),
+      length-append (counted refusedLabel refused) (counted label sum ++ (lineFeed ∷ [])),
+      length-append (counted label sum) (lineFeed ∷ []),
     )
 
 module _ (left right : ℕ) (word customer house table marks : List ℕ) {r : Answer} {after : List ℕ} (promise : WordBreaks left right word customer house table marks r after) where

@@ -31,7 +31,7 @@ abbrev pub wordLine : Answer → List ℕ → List ℕ → List ℕ
 wordLine (answers.Found marks looks) sheet word = hyphenated (hyphen ∷ []) sheet word ++ (lineFeed ∷ [])
 wordLine (answers.Refused g) sheet word = refusalLine question g
 
--- The last line: "words", "refused" and "probes", each with its number.
+-- The last line: "words", "refused" and what the program sums beside them, each with its number. `hyphenate` sums "probes".
 abbrev pub wordsLabel : List ℕ
 wordsLabel = 119 ∷ 111 ∷ 114 ∷ 100 ∷ 115 ∷ []
 
@@ -41,8 +41,8 @@ refusedLabel = space ∷ 114 ∷ 101 ∷ 102 ∷ 117 ∷ 115 ∷ 101 ∷ 100 ∷
 abbrev pub probesLabel : List ℕ
 probesLabel = space ∷ 112 ∷ 114 ∷ 111 ∷ 98 ∷ 101 ∷ 115 ∷ []
 
-abbrev pub sumsLine : ℕ → ℕ → ℕ → List ℕ
-sumsLine words refused probes = counted wordsLabel words ++ (counted refusedLabel refused ++ (counted probesLabel probes ++ (lineFeed ∷ [])))
+abbrev pub sumsLine : ℕ → ℕ → List ℕ → ℕ → List ℕ
+sumsLine words refused label sum = counted wordsLabel words ++ (counted refusedLabel refused ++ (counted label sum ++ (lineFeed ∷ [])))
 
 -- The looks that the program's "probes" sum: those of an answer, none where the word is refused.
 abbrev pub looksOf : Answer → ℕ

@@ -31,7 +31,7 @@ fn put_list(list: u64, room: &mut [u8], at: usize) -> usize
 }
 
 // A line with a sign and what is told of a refusal.
-fn put_told(sign: u8, number: u64, list: u64, place: u64, room: &mut [u8], at: usize) -> usize
+pub fn put_told(sign: u8, number: u64, list: u64, place: u64, room: &mut [u8], at: usize) -> usize
     requires { ⌜ at + length (toldLine sign number list place) ≤ length (now room) ⌝ }
     ensures { λ r. ⌜ Put (toldLine sign number list place) at (now (room .entry)) r (now (room .exit)) ⌝ }
 {
@@ -53,19 +53,26 @@ pub fn put_refusal(sign: u8, ground: Ground, room: &mut [u8], at: usize) -> usiz
     put_told(sign, number as u64, list as u64, place as u64, room, at)
 }
 
-// The last line of the words: how many, how many refused, and how many cells were looked at.
-pub fn put_sums(words: u64, refused: u64, probes: u64, room: &mut [u8], at: usize) -> usize
-    requires { ⌜ at + length (sumsLine words refused probes) ≤ length (now room) ⌝ }
-    ensures { λ r. ⌜ Put (sumsLine words refused probes) at (now (room .entry)) r (now (room .exit)) ⌝ }
+// The last line of the words: how many, how many refused, and with its label what the program sums beside them.
+pub fn put_sums(
+    words: u64,
+    refused: u64,
+    label: &[u8],
+    sum: u64,
+    room: &mut [u8],
+    at: usize,
+) -> usize
+    requires { ⌜ at + length (sumsLine words refused (now label) sum) ≤ length (now room) ⌝ }
+    ensures { λ r. ⌜ Put (sumsLine words refused (now (label .entry)) sum) at (now (room .entry)) r (now (room .exit)) ⌝ }
 {
     let first = writing::put_counted(b"words", words, room, at);
     let second = writing::put_counted(b" refused", refused, room, first);
-    let third = writing::put_counted(b" probes", probes, room, second);
+    let third = writing::put_counted(label, sum, room, second);
     writing::put_byte(words::LINE_FEED, room, third)
 }
 
 // A word with its breaks, and a line feed.
-fn put_line(marks: &[u8], word: &[u8], room: &mut [u8], at: usize) -> usize
+pub fn put_line(marks: &[u8], word: &[u8], room: &mut [u8], at: usize) -> usize
     requires { ⌜ (length (now word) ≤ length (now marks)) × (at + length (hyphenated (hyphen ∷ []) (now marks) (now word) ++ (lineFeed ∷ [])) ≤ length (now room)) ⌝ }
     ensures { λ r. ⌜ Put (hyphenated (hyphen ∷ []) (now (marks .entry)) (now (word .entry)) ++ (lineFeed ∷ [])) at (now (room .entry)) r (now (room .exit)) ⌝ }
 {
