@@ -71,7 +71,7 @@ interps n i firsttime finale sheet (Table t truex falsex) =
 -- Are there enough letters left? i stays.
 interps n i firsttime finale sheet (Check truex falsex) =
     cond (leb i (u + 3)) (Interps i falsex firsttime finale sheet) (Interps i truex firsttime finale sheet)
--- A hyphen t letters behind the next one, and the end.
+-- A hyphen before the letter t + 1 places behind i, and the end.
 interps n i firsttime finale sheet (Success t) = Phase3 finale (clear sheet (i + t + 1))
 interps n i firsttime finale sheet Fail = Phase3 finale sheet
 -- The same hyphen, and again with the letters before it.
