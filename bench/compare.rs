@@ -228,14 +228,18 @@ impl Pairs {
     }
 
     /// Short texts of a few bytes, with letters, hyphens and dots among them, or
-    /// of any: most pairs are nothing that a list or a word can be.
+    /// of any: most pairs are nothing that a list or a word can be. Without
+    /// apostrophes: since CR 5 they are symbols, which they weren't before.
     fn hostile(rng: &mut Rng, count: usize) -> Pairs {
-        let bytes = b"abzABZ--..\n'`{@[\x0d\x0e\x4d\x6d\x00\x80\xc1\xe1\xff";
+        let bytes = b"abzABZ--..\n`{@[\x0d\x0e\x4d\x6d\x00\x80\xc1\xe1\xff";
         let mut pairs = Pairs::new();
         for _ in 0..count {
             let (few, any) = (2 + rng.below(bytes.len() - 1), rng.once_in(4));
             let byte = |rng: &mut Rng| match any {
-                true => rng.below(256) as u8,
+                true => match rng.below(256) as u8 {
+                    b'\'' => b'-',
+                    byte => byte,
+                },
                 false => bytes[rng.below(few)],
             };
             let text = |rng: &mut Rng| -> Vec<u8> {

@@ -13,6 +13,10 @@
  * not overlap any other argument. Texts and tables may hold any bytes, and widths any doubles: each call ends with a finding or with a
  * numbered refusal, whatever they hold.
  *
+ * Words. A word's bytes are letters, a to z and A to Z, and apostrophes (byte 39), each between two letters; capitals count as small,
+ * and an apostrophe counts as a letter, for limits, margins and gaps alike. Any other byte, and an apostrophe elsewhere, is ground 3.
+ * tteolmigu_1980 takes letters alone.
+ *
  * Tables. A table is a head of 6 bytes, then C cells of 6 bytes each, then E entries of 5 bytes each, and nothing behind. Bytes 0 and 1
  * are the head's kind and the edition, both 1. Bytes 2 and 3 tell C and bytes 4 and 5 tell E, each with the high byte first. The length
  * is 6 + 6C + 5E. docs/FORMATS.md has cells and entries, to the byte.
@@ -36,7 +40,7 @@
  * Grounds:
  *    1  a margin outside 1 to 63
  *    2  the word is empty
- *    3  a byte of the word is no letter; the place is its number, from 0
+ *    3  a byte of the word is no letter and no apostrophe between two letters; the place is its number, from 0
  *    4  the word has 64 bytes or more
  *    5  the break or level room has fewer than 64 bytes
  *    6  a bad exception line; the list, and as place the offset of the first bad line
@@ -46,7 +50,8 @@
  *   10  the pack room has fewer than 59,398 bytes
  *   11  the table of this list would need more than 8,192 cells or 2,048 entries
  *   12  the table isn't right for the list
- *   13  a width outside 0 to 1,000, or not a number: the hyphen's, the line's or one of the 26 letters'
+ *   13  a width outside 0 to 1,000, or not a number: the hyphen's, the line's one of the 26 letters' or the
+ *       apostrophe's
  *
  * A refusal leaves the room as it was, but for ground 11, which sets the room's first 59,398 bytes to zero.
  */
@@ -61,8 +66,8 @@ extern "C" {
 #endif
 
 /* The version of this header and of the library that it declares. A later one has a greater TTEOLMIGU_VERSION. */
-#define TTEOLMIGU_VERSION_MAJOR 1
-#define TTEOLMIGU_VERSION_MINOR 3
+#define TTEOLMIGU_VERSION_MAJOR 2
+#define TTEOLMIGU_VERSION_MINOR 0
 #define TTEOLMIGU_VERSION_PATCH 0
 #define TTEOLMIGU_VERSION (TTEOLMIGU_VERSION_MAJOR * 1000000 + TTEOLMIGU_VERSION_MINOR * 1000 + TTEOLMIGU_VERSION_PATCH)
 
@@ -71,7 +76,7 @@ extern "C" {
 #define TTEOLMIGU_PACK_ROOM 59398u  /* a pack room has at least so many bytes, and no table has more */
 
 /* Words and margins. */
-#define TTEOLMIGU_WORD_LIMIT 63u    /* letters of a word, at most; at least 1 */
+#define TTEOLMIGU_WORD_LIMIT 63u    /* letters of a word, apostrophes among them, at most; at least 1 */
 #define TTEOLMIGU_MARGIN_LEAST 1u   /* a margin, at least */
 #define TTEOLMIGU_MARGIN_LIMIT 63u  /* a margin, at most */
 #define TTEOLMIGU_LOOK_LIMIT 1040u  /* cells looked at for a word, at most: 16 * (63 + 2) */
@@ -81,16 +86,17 @@ extern "C" {
 #define TTEOLMIGU_1980_LETTERS 63u  /* letters of its words, at most; at least 1 */
 
 /* Widths. */
-#define TTEOLMIGU_WIDTHS 26u           /* letter widths: one for each letter, a to z */
-#define TTEOLMIGU_WIDTH_LEAST 0.0      /* a width, at least */
-#define TTEOLMIGU_WIDTH_LIMIT 1000.0   /* a width, at most */
+#define TTEOLMIGU_WIDTHS 27u            /* letter widths: one for each letter, a to z, and behind them the apostrophe's */
+#define TTEOLMIGU_APOSTROPHE_WIDTH 26u  /* where the apostrophe's stands among them, from 0 */
+#define TTEOLMIGU_WIDTH_LEAST 0.0       /* a width, at least */
+#define TTEOLMIGU_WIDTH_LIMIT 1000.0    /* a width, at most */
 
 /* Lists. */
 #define TTEOLMIGU_PATTERN_TEXT 32768u   /* bytes of a pattern list, at most */
 #define TTEOLMIGU_PATTERN_LIMIT 16u     /* symbols of a pattern, at most; at least 1 */
 #define TTEOLMIGU_LEVEL_LIMIT 9u        /* a level, at most */
 #define TTEOLMIGU_EXCEPTION_TEXT 8192u  /* bytes of an exception list, at most; each list for itself */
-#define TTEOLMIGU_EXCEPTION_LIMIT 63u   /* letters of an exception line, at most, without its hyphens; at least 1 */
+#define TTEOLMIGU_EXCEPTION_LIMIT 63u   /* letters of an exception line and its apostrophes, at most, without its hyphens; at least 1 */
 #define TTEOLMIGU_CUSTOMER_LIST 1u      /* the number of the customer's list in an answer */
 #define TTEOLMIGU_HOUSE_LIST 2u         /* the number of the house's list in an answer */
 
@@ -182,12 +188,12 @@ uint64_t tteolmigu_lookup(const uint8_t *word, size_t word_size,
 
 /*
  * Which break of a word fits a line: the whole word, else the last break that fits with its hyphen, else none. 'hyphen' and 'line' are
- * the widths of a hyphen and of the line, and 'widths' points to TTEOLMIGU_WIDTHS doubles, aligned as such, the widths of a to z; a
- * capital is as wide as its small letter. The room is a break room as tteolmigu_hyphenate leaves it: of its bytes 1 to n - 1 for a word of n letters, each
- * that isn't 0 is a break, and no other byte matters. Nothing is written.
+ * the widths of a hyphen and of the line, and 'widths' points to TTEOLMIGU_WIDTHS doubles, aligned as such: the widths of a to z, then
+ * an apostrophe's. A capital is as wide as its small letter. The room is a break room as tteolmigu_hyphenate leaves it: of its bytes 1
+ * to n - 1 for a word of n letters, each that isn't 0 is a break, and no other byte matters. Nothing is written.
  *
  * A width is the sum of the letters' widths from the left, starting at 0, each addition rounded once; for a break the hyphen's is
- * added last. It fits where it isn't above the line's. Grounds 5, 2, 4, 3, 13, in this order; all 28 widths are judged, whether the
+ * added last. It fits where it isn't above the line's. Grounds 5, 2, 4, 3, 13, in this order; all 29 widths are judged, whether the
  * word has the letter or not, and -0.0 is 0. tteolmigu_outcome has what came out, tteolmigu_gap for a break how many letters stand
  * before it.
  */
@@ -198,8 +204,8 @@ uint64_t tteolmigu_fit(double hyphen, double line, const double *widths,
 /*
  * Breaks a word as the table machine of 1980 does, for archive reprints: suffixes, prefixes and pairs of consonants by its own tables,
  * without a list of exceptions. Words of 1 to 4 letters have no break and execute nothing; of a longer one with n letters a hyphen
- * stands before letters 3 to n - 2 alone. Grounds 5, 2, 4, 3, in this order. A finding sets byte i of the room to 1 where a break lies
- * after letter i, the other bytes up to 63 to 0, and leaves later ones alone. tteolmigu_1980_breaks has the number of breaks,
+ * stands before letters 3 to n - 2 alone. An apostrophe is ground 3 wherever it stands. Grounds 5, 2, 4, 3, in this order. A finding
+ * sets byte i of the room to 1 where a break lies after letter i, the other bytes up to 63 to 0, and leaves later ones alone. tteolmigu_1980_breaks has the number of breaks,
  * tteolmigu_1980_executed that of the instructions, of both tables together. If more than 20,000 were needed the machine would run
  * out, and leave the room as it was; tteolmigu_1980_ran_out tells it.
  */

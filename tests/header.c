@@ -232,14 +232,20 @@ static int fits(uint64_t answer, unsigned outcome, uint32_t gap)
     return tteolmigu_number(answer) == 0 && tteolmigu_outcome(answer) == outcome && tteolmigu_gap(answer) == gap;
 }
 
-/* The number on which a width is refused, as the hyphen's, as the line's and as that of a letter which the word hasn't. */
+/*
+ * The number on which a width is refused, as the hyphen's, as the line's, as that of a letter which the word hasn't, and as the
+ * apostrophe's.
+ */
 static int judged(double width, unsigned number)
 {
     int same;
 
     set_widths(1.0);
     same = tteolmigu_number(fit(width, 1.0, "on")) == number && tteolmigu_number(fit(1.0, width, "on")) == number;
-    widths[TTEOLMIGU_WIDTHS - 1] = width;
+    widths['z' - 'a'] = width;
+    same = same && tteolmigu_number(fit(1.0, 1.0, "on")) == number;
+    set_widths(1.0);
+    widths[TTEOLMIGU_APOSTROPHE_WIDTH] = width;
     return same && tteolmigu_number(fit(1.0, 1.0, "on")) == number;
 }
 
@@ -269,6 +275,30 @@ static void fits_of_words(void)
     expect("as a break isn't", fits(fit(0.0, 0.3, "one"), TTEOLMIGU_NONE, 0));
     room[2] = before[2];
     expect("the room is only read", memcmp(room, before, sizeof room) == 0);
+}
+
+/* An apostrophe between two letters is one of the word's, for its breaks, its margins, its lines and its width. */
+static void words_with_apostrophes(void)
+{
+    size_t size = tteolmigu_size(pack("l'1e\n"));
+    uint64_t r;
+
+    r = hyphenate(2, 3, "L'Entrata", "", "", size);
+    expect("a break behind an apostrophe", tteolmigu_marks(r) == 1 && room[2] == 1 && tteolmigu_looks(r) == 13);
+    set_widths(1.0);
+    widths[TTEOLMIGU_APOSTROPHE_WIDTH] = 0.5;
+    expect("its width", fits(fit(0.25, 8.5, "L'Entrata"), TTEOLMIGU_WHOLE, 0) && fits(fit(0.25, 1.75, "L'Entrata"), TTEOLMIGU_BREAK, 2));
+    expect("a wider one", fits(fit(0.25, 1.7, "L'Entrata"), TTEOLMIGU_NONE, 0));
+    r = hyphenate(3, 3, "l'entrata", "", "", size);
+    expect("it counts for the margin", tteolmigu_number(r) == 0 && tteolmigu_marks(r) == 0);
+    r = hyphenate(2, 2, "l'entrata", "l'-en-tra-ta\n", "", size);
+    expect("an exception line with one", tteolmigu_marks(r) == 3 && room[2] == 1 && room[4] == 1 && room[7] == 1);
+    expect("first", hyphenate(2, 3, "'entrata", "", "", size) == (uint64_t)TTEOLMIGU_NOT_LETTER << 56);
+    expect("last", hyphenate(2, 3, "un'", "", "", size) == ((uint64_t)TTEOLMIGU_NOT_LETTER << 56 | 2));
+    expect("two", hyphenate(2, 3, "l''entrata", "", "", size) == ((uint64_t)TTEOLMIGU_NOT_LETTER << 56 | 1));
+    expect("before a digit", hyphenate(2, 3, "l'1", "", "", size) == ((uint64_t)TTEOLMIGU_NOT_LETTER << 56 | 1));
+    expect("at a pattern's ends", tteolmigu_number(pack("'l1'\n")) == 0);
+    expect("beside an edge", pack(".'l1\n") == (uint64_t)TTEOLMIGU_BAD_PATTERN << 56);
 }
 
 static uint64_t reprint(const char *word)
@@ -310,7 +340,8 @@ static void limits_of_widths(void)
     uint64_t r;
 
     memset(room, 0, sizeof room);
-    expect("a width for each letter", TTEOLMIGU_WIDTHS == 'z' - 'a' + 1);
+    expect("a width for each letter and the apostrophe", TTEOLMIGU_WIDTHS == 'z' - 'a' + 2);
+    expect("the apostrophe's is the last", TTEOLMIGU_APOSTROPHE_WIDTH == TTEOLMIGU_WIDTHS - 1);
     expect("limits of widths are doubles", sizeof TTEOLMIGU_WIDTH_LEAST == 8 && sizeof TTEOLMIGU_WIDTH_LIMIT == 8);
     expect("the least width", judged(TTEOLMIGU_WIDTH_LEAST, 0));
     expect("0 with a minus", judged(-0.0, 0));
@@ -396,6 +427,7 @@ int main(void)
 
     versions();
     fits_of_words();
+    words_with_apostrophes();
     words_of_1980();
     limits_of_words();
     limits_of_widths();

@@ -19,7 +19,7 @@
 #include <unistd.h>
 
 #define LIMIT 16384u                   /* every call's stack, without the packer's arrays */
-#define ARRAYS (10240u + 8192u + 28u)  /* the packer's: entries, taken bases, a mask */
+#define ARRAYS (10240u + 8192u + 29u)  /* the packer's: entries, taken bases, a mask */
 #define ALIGN 64u                      /* thread data wants a stack's end aligned so */
 #define WIDE 262144u                   /* all of the lent memory; a thread gets its lower part */
 #define GUARD 65536u                   /* below it; more than any frame, so that none steps over it */
@@ -30,6 +30,7 @@
 #define ENTRIES 2048u
 #define LETTERS 63u
 #define LONGEST 16u
+#define SYMBOLS 28u
 #define PATTERNS 32768u
 #define EXCEPTIONS 8192u
 
@@ -231,7 +232,7 @@ static void lookup(const char *what, struct bytes word, struct bytes customer, s
     one(what, (struct job){.call = LOOKUP, .word = word, .customer = customer, .house = house}, want);
 }
 
-/* A hyphen of 0.05 and letters of 0.1, but that the width of z is given. The room is only read. */
+/* A hyphen of 0.05 and letters of 0.1, but that the last width, an apostrophe's, is given. The room is only read. */
 static void fit(const char *what, struct bytes word, double line, double last, uint64_t want)
 {
     struct job job = {.call = FIT, .word = word, .hyphen = 0.05, .line = line};
@@ -336,6 +337,16 @@ static struct bytes exceptions(size_t from)
         }
     }
     return list;
+}
+
+/* The same with an apostrophe as each line's second letter, hyphens on both sides of it. */
+static struct bytes apostrophes(struct bytes list)
+{
+    struct bytes made = copy(list);
+
+    for (size_t line = 0; line < LINES; line++)
+        made.at[2 + line * LINE + 2] = '\'';
+    return made;
 }
 
 /* Three letters in all orders, as tests/programs has them: a pattern list of the largest size that is packed. */
@@ -453,13 +464,13 @@ static struct bytes chained(size_t distances)
     return table;
 }
 
-/* Every 27th number is a base from which all symbols match, links lead round among these, and every output is the longest chain. */
+/* Every 28th number is a base from which all symbols match, links lead round among these, and every output is the longest chain. */
 static struct bytes circles(void)
 {
     struct bytes table = chained(2);
 
     for (size_t i = 0; i < CELLS; i++)
-        set(table, i, i == 0 ? 0 : (i - 1) % 27 + 1, 27 * (1 + 7 * i % 302));
+        set(table, i, i == 0 ? 0 : (i - 1) % SYMBOLS + 1, SYMBOLS * (1 + 7 * i % (CELLS / SYMBOLS - 1)));
     return table;
 }
 
@@ -573,6 +584,7 @@ int main(void)
     table = circles();
 
     levels("circles and the longest chain", word, table, finding(all, looks));
+    levels("an apostrophe", with(word, 1, '\''), table, finding(all, looks));
     levels("a digit as last byte", digit, table, refusal(3, 0, LETTERS - 1));
     levels("a wrong head", word, with(table, 5, 1), refusal(9, 0, 0));
 
@@ -583,6 +595,8 @@ int main(void)
     hyphenate("the customer's last line bad", word, twice, held, table, refusal(6, 1, last));
     hyphenate("the house's last line bad", word, held, twice, table, refusal(6, 2, last));
     hyphenate("a list too long", word, held, longer(held), table, refusal(8, 0, 0));
+    hyphenate("apostrophes in the last line", with(word, 1, '\''), apostrophes(others), apostrophes(held), table, finding(all, 0));
+    hyphenate("an apostrophe at the end", word, held, with(held, EXCEPTIONS - 2, '\''), table, refusal(6, 2, last));
     hyphenate("a wrong head", word, held, held, with(table, 5, 1), refusal(9, 0, 0));
 
     lookup("the house's last line", word, others, held, UINT64_C(2) << 48 | last << 16 | (LINE - 1));
@@ -597,6 +611,7 @@ int main(void)
     fit("a digit as last byte", digit, 6.3, 0.1, refusal(3, 0, LETTERS - 1));
     fit("a word too long", longer(word), 6.3, 0.1, refusal(4, 0, 0));
     fit("the last width too great", word, 6.3, 1001.0, refusal(13, 0, 0));
+    fit("an apostrophe of 1", with(word, 1, '\''), 1.16, 1.0, UINT64_C(2) << 32 | 2);
 
     /* Of all words tried, the second executes the most instructions; the third comes to a place before the word's. */
     reprint("no suffix and no prefix", word, finding(0, 2));
@@ -604,11 +619,13 @@ int main(void)
     reprint("before the word", spelt("lated"), finding(0, 9));
     reprint("a short word", spelt("late"), 0);
     reprint("a digit as last byte", digit, refusal(3, 0, LETTERS - 1));
+    reprint("an apostrophe", with(word, 1, '\''), refusal(3, 0, 1));
     reprint("a word too long", longer(word), refusal(4, 0, 0));
 
     list = triples();
     pack("a list of full size", list, packed("a list of full size", list).size);
     pack("the last line bad", with(list, PATTERNS - 1, '1'), refusal(7, 0, PATTERNS - 8));
+    pack("apostrophes", spelt("l'1e\n'l1'\n"), packed("apostrophes", spelt("l'1e\n'l1'\n")).size);
     pack("a list too long", longer(list), refusal(8, 0, 0));
     pack("too many cells", many_cells(), refusal(11, 0, 0));
     pack("too many entries", many_entries(PATTERNS / FULL, 1), refusal(11, 0, 0));

@@ -6,6 +6,7 @@
 use std::collections::HashMap;
 
 const EDGE: u8 = 27;
+const APOSTROPHE: u8 = 28;
 const LONGEST: usize = 16;
 const CELL_LIMIT: usize = 8_192;
 const ENTRY_LIMIT: usize = 2_048;
@@ -22,6 +23,22 @@ struct Row {
     letters: usize,
 }
 
+/// A letter's number in the alphabet from 0, 26 or more for any other byte.
+#[inline]
+fn letter(byte: u8) -> u8 {
+    (byte | 0x20).wrapping_sub(b'a')
+}
+
+/// Whether a byte of a word that is no letter is an apostrophe between two.
+#[cold]
+fn is_between(word: &[u8], place: usize) -> bool {
+    let is_letter = |&byte: &u8| letter(byte) < 26;
+    word[place] == b'\''
+        && place > 0
+        && is_letter(&word[place - 1])
+        && word.get(place + 1).map_or(false, is_letter)
+}
+
 /// Judges a word and writes its row.
 fn read_word(word: &[u8]) -> Result<Row, u64> {
     if word.is_empty() {
@@ -32,11 +49,11 @@ fn read_word(word: &[u8]) -> Result<Row, u64> {
     }
     let mut symbols = [EDGE; 65];
     for (place, &byte) in word.iter().enumerate() {
-        let letter = (byte | 0x20).wrapping_sub(b'a');
-        if letter >= 26 {
-            return Err(refuse(3, 0, place));
-        }
-        symbols[place + 1] = letter + 1;
+        symbols[place + 1] = match letter(byte) {
+            letter if letter < 26 => letter + 1,
+            _ if is_between(word, place) => APOSTROPHE,
+            _ => return Err(refuse(3, 0, place)),
+        };
     }
     Ok(Row {
         symbols,
@@ -45,7 +62,7 @@ fn read_word(word: &[u8]) -> Result<Row, u64> {
 }
 
 /// Which break of a word fits a line.
-pub fn fit(hyphen: f64, line: f64, widths: &[f64; 26], word: &[u8], room: &[u8]) -> u64 {
+pub fn fit(hyphen: f64, line: f64, widths: &[f64; 27], word: &[u8], room: &[u8]) -> u64 {
     if room.len() < 64 {
         return refuse(5, 0, 0);
     }
@@ -55,9 +72,10 @@ pub fn fit(hyphen: f64, line: f64, widths: &[f64; 26], word: &[u8], room: &[u8])
     if word.len() > 63 {
         return refuse(4, 0, 0);
     }
-    let number = |byte: u8| (byte | 0x20).wrapping_sub(b'a') as usize;
-    if let Some(place) = word.iter().position(|&byte| number(byte) >= 26) {
-        return refuse(3, 0, place);
+    for (place, &byte) in word.iter().enumerate() {
+        if letter(byte) >= 26 && !is_between(word, place) {
+            return refuse(3, 0, place);
+        }
     }
     let is_width = |width: f64| (0.0..=1_000.0).contains(&width);
     let letters_are = widths.iter().all(|&width| is_width(width));
@@ -69,7 +87,8 @@ pub fn fit(hyphen: f64, line: f64, widths: &[f64; 26], word: &[u8], room: &[u8])
         if gap != 0 && mark != 0 && sum + hyphen <= line {
             last = gap as u64;
         }
-        sum += widths[number(byte)];
+        // Of a judged word's bytes only an apostrophe is past the letters.
+        sum += widths[letter(byte).min(26) as usize];
     }
     match last {
         _ if sum <= line => 1 << 32,
@@ -195,29 +214,29 @@ fn scan_exceptions(text: &[u8], row: &Row) -> Result<Option<(usize, usize)>, usi
         loop {
             let byte = *text.get(at).ok_or(start)?;
             at += 1;
-            let letter = byte.wrapping_sub(b'a');
-            if letter < 26 {
-                if length == 63 {
-                    return Err(start);
+            let symbol = match byte {
+                b'a'..=b'z' => byte - b'a' + 1,
+                b'\'' if length > 0 && above[length - 1] != APOSTROPHE => APOSTROPHE,
+                b'-' if !hyphen => {
+                    hyphen = true;
+                    continue;
                 }
-                let symbol = letter + 1;
-                if !greater {
-                    if length >= above_length || symbol > above[length] {
-                        greater = true;
-                    } else if symbol < above[length] {
-                        return Err(start);
-                    }
-                }
-                above[length] = symbol;
-                length += 1;
-                hyphen = false;
-            } else if byte == b'-' && !hyphen {
-                hyphen = true;
-            } else if byte == b'\n' && !hyphen && greater {
-                break;
-            } else {
+                b'\n' if !hyphen && greater && above[length - 1] != APOSTROPHE => break,
+                _ => return Err(start),
+            };
+            if length == 63 {
                 return Err(start);
             }
+            if !greater {
+                if length >= above_length || symbol > above[length] {
+                    greater = true;
+                } else if symbol < above[length] {
+                    return Err(start);
+                }
+            }
+            above[length] = symbol;
+            length += 1;
+            hyphen = false;
         }
         above_length = length;
         if found.is_none() && &above[..length] == wanted {
@@ -339,18 +358,28 @@ fn read_pattern(text: &[u8], start: usize) -> Option<(Pattern, usize)> {
                 pattern.levels[pattern.length] = byte - b'0';
                 digits = true;
             }
-            b'a'..=b'z' | b'.' => {
-                // An edge that isn't the first symbol must be the last.
-                let behind_edge = pattern.length > 1 && pattern.symbols[pattern.length - 1] == EDGE;
+            b'a'..=b'z' | b'.' | b'\'' => {
+                // An edge that isn't the first symbol must be the last, and an
+                // apostrophe stands beside letters alone.
+                let before = match pattern.length {
+                    0 => 0,
+                    length => pattern.symbols[length - 1],
+                };
+                let behind_edge = pattern.length > 1 && before == EDGE;
                 if pattern.length == LONGEST || behind_edge {
                     return None;
                 }
-                let edge = byte == b'.';
-                if edge && pattern.length == 0 && digits {
+                let symbol = match byte {
+                    b'.' => EDGE,
+                    b'\'' => APOSTROPHE,
+                    _ => byte - b'a' + 1,
+                };
+                let apart = symbol < EDGE || before < EDGE;
+                if !apart || (symbol == EDGE && pattern.length == 0 && digits) {
                     return None;
                 }
-                pattern.symbols[pattern.length] = if edge { EDGE } else { byte - b'a' + 1 };
-                letters |= !edge;
+                pattern.symbols[pattern.length] = symbol;
+                letters |= symbol < EDGE;
                 pattern.length += 1;
             }
             b'\n' => {
@@ -438,7 +467,7 @@ impl Bits {
         self.words[place / 64] |= 1 << (place % 64);
     }
 
-    /// 28 bits or more from a place on.
+    /// 29 bits or more from a place on.
     #[inline]
     fn window(&self, place: usize) -> u64 {
         let (word, shift) = (place / 64, place % 64);
@@ -617,7 +646,7 @@ fn paths_are_right(
 ) -> bool {
     let mut following = groups(list, from, to, depth);
     let mut group = following.next();
-    for symbol in 1..=EDGE {
+    for symbol in 1..=APOSTROPHE {
         let found = table.matching(base, symbol);
         match (found, group) {
             (Some((link, output)), Some((wanted, from, to))) if wanted == symbol => {

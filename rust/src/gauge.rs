@@ -40,8 +40,8 @@ impl Gauge {
     /// The whole word if it fits the line, else the last of its breaks that fits
     /// with its hyphen, else none.
     ///
-    /// `widths` are those of the letters a to z; a capital is as wide as its
-    /// small letter. A width is the sum from the left, starting at 0, each
+    /// `widths` are those of the letters a to z, then the apostrophe's; a capital
+    /// is as wide as its small letter. A width is the sum from the left, starting at 0, each
     /// addition rounded once, and for a break the hyphen's is added last. It
     /// fits where it isn't above the line's. Breaks that lie outside the word,
     /// as those of a longer one, don't count. Somebody's break room of bytes
@@ -60,7 +60,7 @@ impl Gauge {
     ///
     /// // Every width is judged, also that of a letter which the word hasn't.
     /// let mut widths = [0.5; WIDTHS];
-    /// widths[25] = f64::NAN;
+    /// widths[usize::from(b'z' - b'a')] = f64::NAN;
     /// assert_eq!(gauge.fit(&widths, b"Nation", breaks), Err(Ground::BadWidth));
     /// # Ok::<(), Ground>(())
     /// ```
@@ -115,7 +115,7 @@ mod tests {
         Breaks::of_room(&room, 0)
     }
 
-    /// The widths of a to z: 1, 2, 3 and so on.
+    /// The widths of a to z and of the apostrophe: 1, 2, 3 and so on.
     fn counting() -> [f64; WIDTHS] {
         let mut widths = [0.0; WIDTHS];
         for (letter, width) in widths.iter_mut().enumerate() {
@@ -147,6 +147,11 @@ mod tests {
             let narrow = gauge(0.0, width - 0.1).fit(&widths, &[letter], none);
             assert_eq!(narrow, Ok(Fit::None));
         }
+        // "a'b" has 1, 27 and 2 mm.
+        let fit = |line| gauge(0.0, line).fit(&widths, b"a'b", breaks);
+        assert_eq!(fit(30.0), Ok(Fit::Whole));
+        assert_eq!(fit(29.9), Ok(Fit::Break(2)));
+        assert_eq!(fit(27.9), Ok(Fit::Break(1)));
     }
 
     #[test]
@@ -217,6 +222,7 @@ mod tests {
             assert_eq!(refused(&[b'a'; 64], width), Some(Ground::WordLong));
             let place = Some(Ground::NotLetter { place: 2 });
             assert_eq!(refused(b"ab1", width), place);
+            assert_eq!(refused(b"ab'", width), place);
         }
     }
 

@@ -34,7 +34,8 @@ pub enum Ground {
     Margin,
     /// 2: the word is empty.
     WordEmpty,
-    /// 3: a byte of the word is no letter.
+    /// 3: a byte of the word is no letter and no apostrophe between two
+    /// letters.
     NotLetter {
         /// The number of the first such byte, from 0.
         place: usize,
@@ -67,7 +68,7 @@ pub enum Ground {
     /// 12: the table isn't right for the list.
     NotRight,
     /// 13: a width outside 0 to 1,000, or not a number: the hyphen's, the
-    /// line's or one of the 26 letters'.
+    /// line's, one of the 26 letters' or the apostrophe's.
     BadWidth,
     /// A refusal that this version doesn't know. The library that the crate
     /// was made with never gives one.

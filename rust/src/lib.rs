@@ -4,7 +4,8 @@
 //! Words, lists and tables may hold any bytes. Each call ends with a finding or
 //! with the [`Ground`] on which it refuses. A [`Table`] is only to be had by
 //! packing a list or by checking somebody's bytes with one, so that nobody
-//! hyphenates over a wrong table unawares.
+//! hyphenates over a wrong table unawares. A word has letters, a to z and A to
+//! Z, and apostrophes, each between two letters, that count as letters.
 //!
 //! ```
 //! use tteolmigu::{Exceptions, Fit, Gauge, Ground, Margins, Table, PACK_ROOM, WIDTHS};
@@ -43,6 +44,11 @@
 //! let gauge = Gauge { hyphen: 1.0, line: 15.0 };
 //! let widths = [2.0; WIDTHS];
 //! assert_eq!(gauge.fit(&widths, word.as_bytes(), breaks)?, Fit::Break(6));
+//!
+//! // An apostrophe between two letters is one of the word's.
+//! let lists = Exceptions { customer: b"l'en-tra-ta\n", house: b"" };
+//! let breaks = table.hyphenate(margins, b"L'Entrata", lists)?;
+//! assert_eq!(breaks.iter().collect::<Vec<_>>(), [4]);
 //!
 //! // Look at a refusal: its ground and place, its number, its words.
 //! let ground = table.hyphenate(margins, b"a1", lists).unwrap_err();

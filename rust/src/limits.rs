@@ -7,16 +7,16 @@
 /// The first number of the version, which is also the package's.
 ///
 /// ```
-/// assert_eq!(tteolmigu::VERSION_MAJOR, 1);
+/// assert_eq!(tteolmigu::VERSION_MAJOR, 2);
 /// ```
-pub const VERSION_MAJOR: u32 = 1;
+pub const VERSION_MAJOR: u32 = 2;
 
 /// The second number of the version.
 ///
 /// ```
 /// assert!(tteolmigu::VERSION_MINOR < 1_000);
 /// ```
-pub const VERSION_MINOR: u32 = 3;
+pub const VERSION_MINOR: u32 = 0;
 
 /// The third number of the version.
 ///
@@ -60,7 +60,7 @@ pub const ROOM: usize = 64;
 /// ```
 pub const PACK_ROOM: usize = 59_398;
 
-/// The most letters of a word.
+/// The most letters of a word, its apostrophes among them.
 ///
 /// ```
 /// use tteolmigu::{Ground, Table, PACK_ROOM, WORD_LIMIT};
@@ -126,12 +126,24 @@ pub const MARGIN_LIMIT: u64 = 63;
 /// ```
 pub const LOOK_LIMIT: u32 = 1_040;
 
-/// How many letter widths there are: one for each letter, a to z.
+/// How many letter widths there are: one for each letter, a to z, and behind
+/// them the apostrophe's.
 ///
 /// ```
-/// assert_eq!(tteolmigu::WIDTHS, (b'a'..=b'z').count());
+/// assert_eq!(tteolmigu::WIDTHS, (b'a'..=b'z').count() + 1);
 /// ```
-pub const WIDTHS: usize = 26;
+pub const WIDTHS: usize = 27;
+
+/// Where the apostrophe's width stands among the letters'.
+///
+/// ```
+/// use tteolmigu::{raw, APOSTROPHE_WIDTH, WIDTHS};
+///
+/// let mut widths = [1.0; WIDTHS];
+/// widths[APOSTROPHE_WIDTH] = 0.5;
+/// assert_eq!(raw::fit(0.0, 2.5, &widths, b"l'a", &[0; 64]), 1 << 32); // whole
+/// ```
+pub const APOSTROPHE_WIDTH: usize = 26;
 
 /// The least width, in millimetres.
 ///
@@ -212,7 +224,8 @@ pub const LEVEL_LIMIT: u8 = 9;
 /// ```
 pub const EXCEPTION_TEXT: usize = 8_192;
 
-/// The most letters of an exception line, without its hyphens.
+/// The most letters of an exception line and its apostrophes, without its
+/// hyphens.
 ///
 /// ```
 /// use tteolmigu::{Exceptions, EXCEPTION_LIMIT};
@@ -411,8 +424,8 @@ pub(crate) mod tests {
     fn the_constants_are_the_headers() {
         let ours = named!(
             VERSION_MAJOR VERSION_MINOR VERSION_PATCH VERSION ROOM PACK_ROOM WORD_LIMIT MARGIN_LEAST
-            MARGIN_LIMIT LOOK_LIMIT WIDTHS WIDTH_LEAST WIDTH_LIMIT PATTERN_TEXT PATTERN_LIMIT
-            LEVEL_LIMIT EXCEPTION_TEXT EXCEPTION_LIMIT CUSTOMER_LIST HOUSE_LIST EDITION HEAD_SIZE
+            MARGIN_LIMIT LOOK_LIMIT WIDTHS APOSTROPHE_WIDTH WIDTH_LEAST WIDTH_LIMIT PATTERN_TEXT
+            PATTERN_LIMIT LEVEL_LIMIT EXCEPTION_TEXT EXCEPTION_LIMIT CUSTOMER_LIST HOUSE_LIST EDITION HEAD_SIZE
             CELL_SIZE ENTRY_SIZE CELL_LIMIT ENTRY_LIMIT TABLE_LEAST TABLE_LIMIT STACK PACK_STACK
             ROOM_1980 LETTERS_1980 STACK_1980
         );

@@ -227,11 +227,11 @@ pub fn lookup(word: &[u8], customer: &[u8], house: &[u8]) -> u64 {
 /// order.
 ///
 /// ```
-/// use tteolmigu::raw;
+/// use tteolmigu::{raw, WIDTHS};
 ///
 /// let mut room = [0; 64];
 /// room[2] = 1; // na-tion
-/// let widths = [1.5; 26];
+/// let widths = [1.5; WIDTHS];
 /// assert_eq!(raw::fit(1.0, 9.0, &widths, b"nation", &room), 1 << 32); // whole
 /// assert_eq!(raw::fit(1.0, 8.5, &widths, b"nation", &room), 2 << 32 | 2); // "na-"
 /// assert_eq!(raw::fit(1.0, 3.5, &widths, b"nation", &room), 3 << 32); // none

@@ -23,12 +23,19 @@ abbrev pub marginLimit : ℕ
 marginLimit = 63
 
 -- Symbols: "a to z are 1 to 26. The word's edge, written ".", is 27."
+abbrev pub letterLimit : ℕ
+letterLimit = 26
+
 abbrev pub edge : ℕ
 edge = 27
 
--- How many symbols there are: 1 to this number.
+-- CR 5: "An apostrophe (byte 39) .. is symbol 28".
+abbrev pub apostropheSymbol : ℕ
+apostropheSymbol = 28
+
+-- How many symbols there are: 1 to this number. CR 5: the walk, checker and first fit "then read 28 symbols".
 abbrev pub symbolLimit : ℕ
-symbolLimit = 27
+symbolLimit = 28
 
 -- Pattern line: "1 to 16 symbols". Walk: "or 16 symbols have matched".
 abbrev pub patternLimit : ℕ
@@ -52,9 +59,9 @@ entryLimit = 2048
 abbrev pub packRoom : ℕ
 packRoom = 59398
 
--- CR 2: "with 26 letter widths beside it".
+-- CR 2: "with 26 letter widths beside it"; CR 5: it "gets a 27th width", the apostrophe's.
 abbrev pub widthCount : ℕ
-widthCount = 26
+widthCount = 27
 
 -- CR 4: words "are judged as before (5, 2, 4, 3)", and the 1980 machine keeps these two where the word limit and the room size move.
 abbrev pub wordLimit1980 : ℕ

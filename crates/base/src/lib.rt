@@ -13,9 +13,13 @@ pub const LEVEL_LIMIT: u8 = 9;
 
 pub const MARGIN_LIMIT: usize = 63;
 
+pub const LETTER_LIMIT: u8 = 26;
+
 pub const EDGE: u8 = 27;
 
-pub const SYMBOL_LIMIT: u8 = 27;
+pub const APOSTROPHE_SYMBOL: u8 = 28;
+
+pub const SYMBOL_LIMIT: u8 = 28;
 
 pub const PATTERN_LIMIT: usize = 16;
 
@@ -29,7 +33,7 @@ pub const ENTRY_LIMIT: usize = 2048;
 
 pub const PACK_ROOM: usize = 59398;
 
-pub const WIDTH_COUNT: usize = 26;
+pub const WIDTH_COUNT: usize = 27;
 
 // The 1980 machine's own.
 pub const WORD_LIMIT_1980: usize = 63;

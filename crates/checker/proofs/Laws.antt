@@ -17,7 +17,7 @@ use Rattle.base.specs.declared.Ground.the-variants.{NotRight}
 use Rattle.base.proofs.Lists.{cons-at, both}
 use Rattle.words.specs.Symbols.{small, digit, symbolOf, symbolsOf}
 use Rattle.words.specs.Words.{inner}
-use Rattle.lines.specs.Lines.{cut, lineLength, anyOf, patternForm, goodPattern}
+use Rattle.lines.specs.Lines.{cut, lineLength, anyOf, lineLetter, patternForm, patternBytes, goodPattern}
 use Rattle.lines.proofs.Laws.{cut-line, line-size, line-starts, line-ends, end-out}
 use Rattle.lists.specs.Lists.{goodLine, firstBad, judgeLines}
 use Rattle.lists.specs.declared.Form.the-variants.{Patterns}
@@ -348,9 +348,9 @@ module _ (cells entries : List ℕ) (root : ℕ) (own : List ℕ) (beside : Besi
 
 -- a good line has at most 16 symbols
 good-short : (l : List ℕ) → goodLine Patterns l ≡ true → length (symbolsOf l) ≤ patternLimit
-unfolding goodLine goodPattern
+unfolding goodLine goodPattern patternBytes
 good-short l e =
-    let form = both (patternForm true false l) _ e .1 in
+    let form = both (patternForm lineLetter true false l) _ (both (patternBytes lineLetter l) _ e .0) .1 in
     let letters = both (anyOf small l) _ form .1 in
     leb-true (length (symbolsOf l)) patternLimit (both (anyOf digit l) _ letters .1)
 

@@ -20,7 +20,7 @@ use Rattle.rooms.specs.Rooms.{isShort, sheet, nonzero, bit}
 use Rattle.rooms.proofs.Sheets.{sheet-length}
 use Rattle.rooms.proofs.Laws.{nonzero-few}
 use Rattle.words.specs.Symbols.{letter, symbolsOf}
-use Rattle.words.specs.Words.{allLetters, judgeWord}
+use Rattle.words.specs.Words.{Rule, lettersAlone, withApostrophes, allFit, judgeLength, judgeBy, judgeWord}
 use Rattle.lines.specs.Lines.{cut}
 use Rattle.lines.specs.Order.{before}
 use Rattle.lists.specs.declared.Form.{Form}
@@ -41,7 +41,7 @@ use Rattle.hyphenation.specs.Breaks.{breakSheet}
 use Rattle.hyphenation.specs.Calls.{judgeRoom, judgeMargins, judgeLevels, judgeHyphenate, answer, levelsAnswer, breaksSheet, breaksLooks, breaksAnswer}
 use Rattle.hyphenation.specs.declared.Answer.{Answer}
 use Rattle.hyphenation.specs.declared.Answer.the-variants as answers
-use Rattle.words.proofs.Laws.{word-fits}
+use Rattle.words.proofs.Laws.{word-fits, letters-fit}
 use Rattle.hyphenation.proofs.Calls.{levels-sizes, breaks-sizes}
 use Rattle.hyphenation.proofs.Theorems.{word-few, breaks-few}
 use Rattle.fit.specs.Table.{Fit, NoRoom, Packed, firstFit}
@@ -107,6 +107,11 @@ unfolding SmallCheck
 small-first Fine b p q = q
 small-first (Refused g) b p q = p
 
+small-both : (a b c : Check) → SmallCheck a → SmallCheck (first b c) → SmallCheck (first (first a b) c)
+unfolding SmallCheck
+small-both Fine b c p q = q
+small-both (Refused g) b c p q = p
+
 small-if : (test : Bool) (g : Ground) → Small g → SmallCheck (refuseIf test g)
 unfolding SmallCheck
 small-if true g s = s
@@ -122,18 +127,19 @@ small-either true a b p q = p
 small-either false a b p q = q
 
 -- words
-letters-small : (at : ℕ) (word : List ℕ) → at + length word < 281474976710656 → SmallCheck (allLetters at word)
-unfolding allLetters SmallCheck
-letters-small at [] h = tt
-letters-small at (b ∷ word) h =
-    small-either (letter b) (allLetters (at + 1) word) (Refused (NotLetter at)) (letters-small (at + 1) word (omega arith)) (record { list = omega arith; place = omega arith })
+bytes-small : (rule : Rule) (at : ℕ) (after : Bool) (word : List ℕ) → at + length word < 281474976710656 → SmallCheck (allFit rule at after word)
+unfolding allFit SmallCheck
+bytes-small rule at after [] h = tt
+bytes-small rule at after (b ∷ word) h =
+    small-either (rule after b word) (allFit rule (at + 1) (letter b) word) (Refused (NotLetter at)) (bytes-small rule (at + 1) (letter b) word (omega arith))
+    (record { list = omega arith; place = omega arith })
 
-word-small : (limit : ℕ) → limit < 281474976710656 → (word : List ℕ) → SmallCheck (judgeWord limit word)
-unfolding judgeWord
-word-small limit k word =
-    small-first (refuseIf (eqb (length word) 0) WordEmpty) _ (small-if (eqb (length word) 0) WordEmpty (record { list = omega arith; place = omega arith }))
-    (small-unless (ltb limit (length word)) WordLong (allLetters 0 word) (record { list = omega arith; place = omega arith })
-    λ z. letters-small 0 word (omega (arith, ltb-false limit (length word) z)))
+word-small : (rule : Rule) (limit : ℕ) → limit < 281474976710656 → (word : List ℕ) → SmallCheck (judgeBy rule limit word)
+unfolding judgeBy judgeLength
+word-small rule limit k word =
+    small-both (refuseIf (eqb (length word) 0) WordEmpty) _ _ (small-if (eqb (length word) 0) WordEmpty (record { list = omega arith; place = omega arith }))
+    (small-unless (ltb limit (length word)) WordLong (allFit rule 0 false word) (record { list = omega arith; place = omega arith })
+    λ z. bytes-small rule 0 false word (omega (arith, ltb-false limit (length word) z)))
 
 -- lists
 SmallLines : Lines → Type 0
@@ -198,14 +204,14 @@ margins-small left right = small-if (badMargin left || badMargin right) Margin (
 
 levels-small : (word table : List ℕ) (size : ℕ) → SmallCheck (judgeLevels word table size)
 unfolding judgeLevels
-levels-small word table size = small-first (judgeRoom size) _ (room-small size) (small-first (judgeWord wordLimit word) (judgeTable table) (word-small wordLimit (omega arith) word) (table-small table))
+levels-small word table size = small-first (judgeRoom size) _ (room-small size) (small-first (judgeWord wordLimit word) (judgeTable table) (word-small withApostrophes wordLimit (omega arith) word) (table-small table))
 
 hyphenate-small : (left right : ℕ) (word customer house table : List ℕ) (size : ℕ) → SmallCheck (judgeHyphenate left right word customer house table size)
 unfolding judgeHyphenate
 hyphenate-small left right word customer house table size =
     small-first (judgeMargins left right) _ (margins-small left right)
     (small-first (judgeRoom size) _ (room-small size)
-    (small-first (judgeWord wordLimit word) _ (word-small wordLimit (omega arith) word)
+    (small-first (judgeWord wordLimit word) _ (word-small withApostrophes wordLimit (omega arith) word)
     (small-first (judgeLists customer house) (judgeTable table) (lists-small customer house) (table-small table))))
 
 check-small : (text table : List ℕ) → SmallCheck (judgeCheck text table)
@@ -369,7 +375,7 @@ fit-small : (g : Gauge) (widths : List Float) (word : List ℕ) (size : ℕ) →
 unfolding judgeFit
 fit-small g widths word size =
     small-first (refuseIf (ltb size roomSize) RoomShort) _ (small-if (ltb size roomSize) RoomShort (plain RoomShort refl refl))
-    (small-first (judgeWord wordLimit word) _ (word-small wordLimit (omega arith) word)
+    (small-first (judgeWord wordLimit word) _ (word-small withApostrophes wordLimit (omega arith) word)
     (small-if (anyBad (given g widths)) BadWidth (plain BadWidth refl refl)))
 
 -- a finding's two numbers fit: the gap isn't past the last
@@ -403,7 +409,7 @@ Reads1980 (Refuses t) bits = (numberIn bits ≡ t .number) × (listIn bits ≡ t
 small-1980 : (word : List ℕ) (size : ℕ) → SmallCheck (judge1980 word size)
 unfolding judge1980
 small-1980 word size =
-    small-first (refuseIf (isShort roomSize1980 size) RoomShort) _ (small-if (isShort roomSize1980 size) RoomShort (plain RoomShort refl refl)) (word-small wordLimit1980 (omega arith) word)
+    small-first (refuseIf (isShort roomSize1980 size) RoomShort) _ (small-if (isShort roomSize1980 size) RoomShort (plain RoomShort refl refl)) (word-small lettersAlone wordLimit1980 (omega arith) word)
 
 breaks-fit : (n finale : ℕ) (marks : List ℕ) → nonzero (reprint.breakSheet n finale marks) < 65536
 unfolding reprint.breakSheet sheet
@@ -430,7 +436,7 @@ bits-1980 word size = go (judge1980 word size) refl (small-1980 word size) (orde
         → Reads1980 (firstOf (Finds (valuesOf (length word) (machine budget1980 word))) (grounds1980 word size)) (bits1980 (firstOf (Finds (valuesOf (length word) (machine budget1980 word))) (grounds1980 word size)))
     go Fine j s o =
         let w = judged-fine word size j in
-        let n = word-fits wordLimit1980 word w in
+        let n = letters-fit wordLimit1980 word w in
         read (said-found o (valuesOf (length word) (machine budget1980 word)))
         (outcome-reads (length word) (mostExecuted (length word)) (machine budget1980 word) (omega arith) (within word w budget1980 (omega arith)))
     go (Refused x) j s o = let r = reads-refusal x s in read (said-refused o (valuesOf (length word) (machine budget1980 word))) (r .number, r .list, r .place)

@@ -15,7 +15,7 @@ use Rattle.base.specs.Orders.{hyphenateOrder, levelsOrder, packOrder, checkOrde
 use Rattle.base.specs.declared.Check.{Check}
 use Rattle.base.proofs.Order.{Chosen, finding-exactly, refuses-first, refuses-listed, none-found, some-refused}
 use Rattle.rooms.specs.Rooms.{filled}
-use Rattle.words.specs.Words.{wordGrounds}
+use Rattle.words.specs.Words.{groundsBy}
 use Rattle.lists.specs.Lists.{patternGrounds, listGrounds}
 use Rattle.lookup.specs.Find.{findEither}
 use Rattle.lookup.specs.Lookup.{lookupGrounds, lineSaid, valuesOf, lookupSaid}
@@ -61,7 +61,7 @@ untouched {sheet = sheet} {room = room} a t e = a .memory ∙ ap (λ (s : Said).
 
 -- The levels call.
 pub levels-order : (word table : List ℕ) (size : ℕ) → numbersOf (levelsGrounds word table size) ≡ levelsOrder
-unfolding levelsGrounds roomGrounds wordGrounds tableGrounds
+unfolding levelsGrounds roomGrounds groundsBy tableGrounds
 levels-order word table size = refl
 
 module _ (word table room after : List ℕ) (r : Answer) (l : Levels word table room r after) where
@@ -73,7 +73,7 @@ module _ (word table room after : List ℕ) (r : Answer) (l : Levels word table 
 
 -- The hyphenating call.
 pub hyphenate-order : (left right : ℕ) (word customer house table : List ℕ) (size : ℕ) → numbersOf (hyphenateGrounds left right word customer house table size) ≡ hyphenateOrder
-unfolding hyphenateGrounds marginGrounds roomGrounds wordGrounds listGrounds tableGrounds
+unfolding hyphenateGrounds marginGrounds roomGrounds groundsBy listGrounds tableGrounds
 hyphenate-order left right word customer house table size = refl
 
 module _ (left right : ℕ) (word customer house table room after : List ℕ) (r : Answer) (b : Breaks left right word customer house table room r after) where
@@ -110,7 +110,7 @@ check-numbered text table r p = numbered checkOrder _ [] (says r) (check-order t
 
 -- The lookup: "An empty part means no line, or a refusal on grounds 2, 4, 3, 8 or 6, which the hyphenating call names."
 pub lookup-order : (word customer house : List ℕ) → numbersOf (lookupGrounds word customer house) ≡ lookupOrder
-unfolding lookupGrounds wordGrounds listGrounds
+unfolding lookupGrounds groundsBy listGrounds
 lookup-order word customer house = refl
 
 pub lookup-refused : (word customer house : List ℕ) → anyHolds (lookupGrounds word customer house) ≡ true → lookupSaid word customer house ≡ []
@@ -123,7 +123,7 @@ lookup-answered word customer house e = ap valuesOf (none-found (lookupGrounds w
 
 -- The fitting call of CR 2, which is lent no memory to write: "Demand 1 reads the numbers and orders of this and the later requests too".
 pub fit-order : (g : Gauge) (widths : List Float) (word : List ℕ) (size : ℕ) → numbersOf (fitGrounds g widths word size) ≡ fitOrder
-unfolding fitGrounds wordGrounds
+unfolding fitGrounds groundsBy
 fit-order g widths word size = refl
 
 pub fit-numbered : (g : Gauge) (widths : List Float) (word room : List ℕ) (r : Fitting) → fitSaid r ≡ fitAnswer g widths word room → Numbered fitOrder (fitGrounds g widths word (length room)) (fitSaid r)
@@ -132,7 +132,7 @@ fit-numbered g widths word room r p = numbered fitOrder _ _ (fitSaid r) (fit-ord
 
 -- The call of CR 4, under any budget. "Refusals leave lent memory untouched", and so does running out.
 pub order-1980 : (word : List ℕ) (size : ℕ) → numbersOf (grounds1980 word size) ≡ order1980
-unfolding grounds1980 wordGrounds
+unfolding grounds1980 groundsBy
 order-1980 word size = refl
 
 module _ (budget : ℕ) (word room after : List ℕ) (r : Answer1980) (p : Reprints budget word room r after) where

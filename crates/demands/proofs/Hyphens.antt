@@ -12,8 +12,9 @@ use lib.ListN.{length, getD, take, drop}
 use Rattle.base.specs.declared.Check.the-variants.{Fine}
 use Rattle.base.proofs.Lists.{clash, never, both, test-iff}
 use Rattle.words.specs.Symbols.{lineFeed, hyphen, small, symbolOf, symbolsOf}
-use Rattle.words.proofs.Laws.{small-symbol, symbols-skip, symbols-keep, symbols-length}
-use Rattle.lines.specs.Lines.{cut, isNil, exceptionForm, goodException}
+use Rattle.words.proofs.Laws.{symbols-skip, symbols-keep, symbols-length}
+use Rattle.lines.specs.Lines.{cut, isNil, lineLetter, exceptionForm, exceptionBytes, goodException}
+use Rattle.lines.proofs.Laws.{line-letter-symbol}
 use Rattle.lists.specs.Lists.{goodLine, judgeLines, judgeLists}
 use Rattle.lists.specs.declared.Form.the-variants.{Exceptions}
 use Rattle.lists.specs.declared.Lines.the-variants.{Good}
@@ -23,10 +24,10 @@ use Rattle.liang.specs.Breaks.{hyphenAt, inMargins, lineBreak}
 use Rattle.hyphenation.specs.Deciding.{Decided, decidingLine, HyphenCounts}
 use Rattle.patterns.proofs.Good.{each-good}
 
--- small letters and hyphens alone
+-- letters and hyphens alone
 lettered : List ℕ → Bool
 lettered [] = true
-lettered (b ∷ t) = (small b || eqb b hyphen) && lettered t
+lettered (b ∷ t) = (lineLetter b || eqb b hyphen) && lettered t
 
 hyphen-symbol : (b : ℕ) → eqb b hyphen ≡ true → eqb (symbolOf b) 0 ≡ true
 unfolding symbolOf small
@@ -36,9 +37,9 @@ feed-symbol : (b : ℕ) → eqb b lineFeed ≡ true → eqb (symbolOf b) 0 ≡ t
 unfolding symbolOf small
 feed-symbol b p = rw (eqb-true b lineFeed p)
 
-small-else : (b : ℕ) (z : Bool) → (small b || z) ≡ true → z ≡ false → small b ≡ true
-small-else b true h p = never (sym p)
-small-else b false h p = go (small b) h
+letter-else : (b : ℕ) (z : Bool) → (lineLetter b || z) ≡ true → z ≡ false → lineLetter b ≡ true
+letter-else b true h p = never (sym p)
+letter-else b false h p = go (lineLetter b) h
   where
     go : (a : Bool) → (a || false) ≡ true → a ≡ true
     go true e = refl
@@ -46,15 +47,15 @@ small-else b false h p = go (small b) h
 
 -- how a good line goes on: with a letter, or with a hyphen behind one
 abbrev GoesOn : Bool → ℕ → List ℕ → Type 0
-GoesOn afterLetter b rest = ((small b ≡ true) × (exceptionForm true rest ≡ true)) ⊎ ((afterLetter ≡ true) × (eqb b hyphen ≡ true) × (exceptionForm false rest ≡ true))
+GoesOn afterLetter b rest = ((lineLetter b ≡ true) × (exceptionForm lineLetter true rest ≡ true)) ⊎ ((afterLetter ≡ true) × (eqb b hyphen ≡ true) × (exceptionForm lineLetter false rest ≡ true))
 
-goes-on : (afterLetter : Bool) (b c : ℕ) (t : List ℕ) → exceptionForm afterLetter (b ∷ c ∷ t) ≡ true
+goes-on : (afterLetter : Bool) (b c : ℕ) (t : List ℕ) → exceptionForm lineLetter afterLetter (b ∷ c ∷ t) ≡ true
     → GoesOn afterLetter b (c ∷ t)
 unfolding exceptionForm isNil
-goes-on a b c t = go (small b) refl a (eqb b hyphen) refl (eqb b lineFeed)
+goes-on a b c t = go (lineLetter b) refl a (eqb b hyphen) refl (eqb b lineFeed)
   where
-    go : (s : Bool) → small b ≡ s → (a y : Bool) → eqb b hyphen ≡ y → (f : Bool)
-        → cond s (exceptionForm true (c ∷ t)) (a && cond y (exceptionForm false (c ∷ t)) (f && isNil (c ∷ t))) ≡ true
+    go : (s : Bool) → lineLetter b ≡ s → (a y : Bool) → eqb b hyphen ≡ y → (f : Bool)
+        → cond s (exceptionForm lineLetter true (c ∷ t)) (a && cond y (exceptionForm lineLetter false (c ∷ t)) (f && isNil (c ∷ t))) ≡ true
         → GoesOn a b (c ∷ t)
     go true p a y q f e = inl (p, e)
     go false p true true q f e = inr (refl, q, e)
@@ -69,15 +70,15 @@ unfed line = take (length line - 1) line
 unfed-on : (b c : ℕ) (t : List ℕ) → unfed (b ∷ c ∷ t) ≡ b ∷ unfed (c ∷ t)
 unfed-on b c t = let one : length (b ∷ c ∷ t) - 1 ≡ suc (length (c ∷ t) - 1) = omega arith in rw one
 
--- Of a good line these are small letters and hyphens, with the symbols of the whole line.
+-- Of a good line these are letters and hyphens, with the symbols of the whole line.
 record Body (line : List ℕ) : Type 0 where
   bytes : lettered (unfed line) ≡ true
   symbols : symbolsOf (unfed line) ≡ symbolsOf line
 
-body : (afterLetter : Bool) (line : List ℕ) → exceptionForm afterLetter line ≡ true → Body line
+body : (afterLetter : Bool) (line : List ℕ) → exceptionForm lineLetter afterLetter line ≡ true → Body line
 unfolding exceptionForm isNil lettered symbolsOf
 body a [] h = never h
-body a (b ∷ []) h = go (small b) a (eqb b hyphen) (eqb b lineFeed) refl h
+body a (b ∷ []) h = go (lineLetter b) a (eqb b hyphen) (eqb b lineFeed) refl h
   where
     go : (s a y f : Bool) → eqb b lineFeed ≡ f → cond s false (a && cond y false (f && isNil [])) ≡ true → Body (b ∷ [])
     go true a y f p q = never q
@@ -87,7 +88,7 @@ body a (b ∷ []) h = go (small b) a (eqb b hyphen) (eqb b lineFeed) refl h
     go false true false true p q = record { bytes = refl; symbols = rw (feed-symbol b p) }
 body a (b ∷ c ∷ t) h = go (goes-on a b c t h) (λ z. body z (c ∷ t))
   where
-    more : (small b || eqb b hyphen) ≡ true → Body (c ∷ t) → Body (b ∷ c ∷ t)
+    more : (lineLetter b || eqb b hyphen) ≡ true → Body (c ∷ t) → Body (b ∷ c ∷ t)
     more e rest = record { bytes = rw (unfed-on b c t, e, rest .bytes); symbols = rw (unfed-on b c t, rest .symbols) }
 
     either : (s : Bool) → eqb b hyphen ≡ true → (s || eqb b hyphen) ≡ true
@@ -95,9 +96,9 @@ body a (b ∷ c ∷ t) h = go (goes-on a b c t h) (λ z. body z (c ∷ t))
     either false q = q
 
     go : GoesOn a b (c ∷ t)
-        → ((z : Bool) → exceptionForm z (c ∷ t) ≡ true → Body (c ∷ t)) → Body (b ∷ c ∷ t)
+        → ((z : Bool) → exceptionForm lineLetter z (c ∷ t) ≡ true → Body (c ∷ t)) → Body (b ∷ c ∷ t)
     go (inl (p, e)) next = more (rw p) (next true e)
-    go (inr (p, q, e)) next = more (either (small b) q) (next false e)
+    go (inr (p, q, e)) next = more (either (lineLetter b) q) (next false e)
 
 -- where a hyphen stands, by the line's bytes and without regard to margins
 stands : (line : List ℕ) (i : ℕ) → lettered line ≡ true → hyphenAt line i ≡ true → HyphenCounts 0 0 line i
@@ -105,7 +106,7 @@ unfolding lettered hyphenAt
 stands [] i g h = never h
 stands (b ∷ t) zero g h =
     record { before = []; behind = t; stands = ap (λ (x : ℕ). x ∷ t) (eqb-true b hyphen h); letters = unfold symbolsOf in refl; left-fits = omega arith; right-fits = omega arith }
-stands (b ∷ t) (suc i) g h = go (eqb b hyphen) refl h (stands t (suc i) (both (small b || eqb b hyphen) _ g .1)) (stands t i (both (small b || eqb b hyphen) _ g .1))
+stands (b ∷ t) (suc i) g h = go (eqb b hyphen) refl h (stands t (suc i) (both (lineLetter b || eqb b hyphen) _ g .1)) (stands t i (both (lineLetter b || eqb b hyphen) _ g .1))
   where
     after : {k : ℕ} (s : HyphenCounts 0 0 t k) → length (symbolsOf (b ∷ s .before)) ≡ suc i → HyphenCounts 0 0 (b ∷ t) (suc i)
     after s e =
@@ -123,12 +124,12 @@ stands (b ∷ t) (suc i) g h = go (eqb b hyphen) refl h (stands t (suc i) (both 
     go true p q skip next = let s = skip q in after s (ap length (symbols-skip b (s .before) (hyphen-symbol b p)) ∙ s .letters)
     go false p q skip next =
         let s = next q in
-        after s (ap length (symbols-keep b (s .before) (small-symbol b (small-else b (eqb b hyphen) (both (small b || eqb b hyphen) _ g .0) p))) ∙ ap suc (s .letters))
+        after s (ap length (symbols-keep b (s .before) (line-letter-symbol b (letter-else b (eqb b hyphen) (both (lineLetter b || eqb b hyphen) _ g .0) p))) ∙ ap suc (s .letters))
 
 found : (before behind : List ℕ) → lettered (before ++ (hyphen ∷ behind)) ≡ true → hyphenAt (before ++ (hyphen ∷ behind)) (length (symbolsOf before)) ≡ true
 unfolding lettered hyphenAt symbolsOf
 found [] behind g = refl
-found (b ∷ before) behind g = go (eqb b hyphen) refl (found before behind (both (small b || eqb b hyphen) _ g .1))
+found (b ∷ before) behind g = go (eqb b hyphen) refl (found before behind (both (lineLetter b || eqb b hyphen) _ g .1))
   where
     rest : List ℕ
     rest = before ++ (hyphen ∷ behind)
@@ -140,7 +141,7 @@ found (b ∷ before) behind g = go (eqb b hyphen) refl (found before behind (bot
 
     go : (z : Bool) → eqb b hyphen ≡ z → hyphenAt rest (length (symbolsOf before)) ≡ true → hyphenAt (b ∷ rest) (length (symbolsOf (b ∷ before))) ≡ true
     go true p next = rw (symbols-skip b before (hyphen-symbol b p)) (again (length (symbolsOf before)) p next)
-    go false p next = rw (symbols-keep b before (small-symbol b (small-else b (eqb b hyphen) (both (small b || eqb b hyphen) _ g .0) p)), p) next
+    go false p next = rw (symbols-keep b before (line-letter-symbol b (letter-else b (eqb b hyphen) (both (lineLetter b || eqb b hyphen) _ g .0) p)), p) next
 
 -- the letters of a line are those before a hyphen and those behind it
 split-letters : (before behind : List ℕ) → length (symbolsOf (before ++ (hyphen ∷ behind))) ≡ length (symbolsOf before) + length (symbolsOf behind)
@@ -184,22 +185,22 @@ record Between (afterLetter : Bool) (before behind : List ℕ) : Type 0 where
   letter-before : afterLetter ≡ false → 1 ≤ length (symbolsOf before)
 
 -- a line goes on with a letter where none stands before it
-begins-lettered : (b : ℕ) (t : List ℕ) → exceptionForm false (b ∷ t) ≡ true → small b ≡ true
+begins-lettered : (b : ℕ) (t : List ℕ) → exceptionForm lineLetter false (b ∷ t) ≡ true → lineLetter b ≡ true
 unfolding exceptionForm
-begins-lettered b t = go (small b)
+begins-lettered b t = go (lineLetter b)
   where
-    go : (s : Bool) → cond s (exceptionForm true t) false ≡ true → s ≡ true
+    go : (s : Bool) → cond s (exceptionForm lineLetter true t) false ≡ true → s ≡ true
     go true e = refl
     go false e = e
 
-letter-first : (b : ℕ) (t : List ℕ) → small b ≡ true → 1 ≤ length (symbolsOf (b ∷ t))
-letter-first b t p = rw (symbols-keep b t (small-symbol b p)) (omega arith)
+letter-first : (b : ℕ) (t : List ℕ) → lineLetter b ≡ true → 1 ≤ length (symbolsOf (b ∷ t))
+letter-first b t p = rw (symbols-keep b t (line-letter-symbol b p)) (omega arith)
 
 no-part : (before behind : List ℕ) → [] ≡ before ++ (hyphen ∷ behind) → ⊥
 no-part [] behind e = clash cc
 no-part (x ∷ before) behind e = clash cc
 
-between : (afterLetter : Bool) (line before behind : List ℕ) → exceptionForm afterLetter line ≡ true → unfed line ≡ before ++ (hyphen ∷ behind) → Between afterLetter before behind
+between : (afterLetter : Bool) (line before behind : List ℕ) → exceptionForm lineLetter afterLetter line ≡ true → unfed line ≡ before ++ (hyphen ∷ behind) → Between afterLetter before behind
 unfolding exceptionForm
 between a [] before behind h e = never h
 between a (b ∷ []) before behind h e = absurd (no-part before behind e)
@@ -215,7 +216,7 @@ between a (b ∷ c ∷ t) [] behind h e = go (goes-on a b c t h)
     rest = ap (drop 1) parts
 
     go : GoesOn a b (c ∷ t) → Between a [] behind
-    go (inl (p, h)) = never (unfold small in rw here at p)
+    go (inl (p, h)) = never (unfold lineLetter small in rw here at p)
     go (inr (p, q, h)) =
         record {
           letter-behind = rw (← rest, body false (c ∷ t) h .symbols) (letter-first c t (begins-lettered c t h));
@@ -230,17 +231,17 @@ between a (b ∷ c ∷ t) (x ∷ before) behind h e = go (goes-on a b c t h) (λ
     here = ap (λ (l : List ℕ). getD l 0 0) parts
 
     go : GoesOn a b (c ∷ t)
-        → ((z : Bool) → exceptionForm z (c ∷ t) ≡ true → Between z before behind) → Between a (x ∷ before) behind
+        → ((z : Bool) → exceptionForm lineLetter z (c ∷ t) ≡ true → Between z before behind) → Between a (x ∷ before) behind
     go (inl (p, h)) next = record { letter-behind = next true h .letter-behind; letter-before = λ z. letter-first x before (rw here at p) }
     go (inr (p, q, h)) next = record { letter-behind = next false h .letter-behind; letter-before = λ z. never (sym z ∙ p) }
 
 -- the line of a listed word
 module _ (word text : List ℕ) (good : judgeLines Exceptions text ≡ Good) (l : Listed word text) where
-  listed-form : exceptionForm false (getD (cut text) (l .at) []) ≡ true
-  unfolding judgeLines goodLine goodException
+  listed-form : exceptionForm lineLetter false (getD (cut text) (l .at) []) ≡ true
+  unfolding judgeLines goodLine goodException exceptionBytes
   listed-form =
       let g : goodException (getD (cut text) (l .at) []) ≡ true = each-good Exceptions 0 [] (cut text) good (l .at) (l .within) in
-      both (exceptionForm false (getD (cut text) (l .at) [])) _ g .0
+      both (exceptionForm lineLetter false (getD (cut text) (l .at) [])) _ (both (exceptionBytes lineLetter (getD (cut text) (l .at) [])) _ g .0) .0
 
   listed-body : Body (getD (cut text) (l .at) [])
   listed-body = body false _ listed-form

@@ -6,21 +6,17 @@ use mathlib.Core.Bool.{Bool, true, false, cond, _&&_}
 use mathlib.Core.List.{List, [], _∷_, _++_}
 use mathlib.Core.Path.{_≡_, refl, sym, _∙_, ap}
 use native.Mathlib.Omega.{arith}
-use borrow.Author.Tests.{le-leb}
-use lib.Dec.{leb, ltb, eqb}
+use borrow.Author.Tests.{le-leb, eqb-true, eqb-false}
+use lib.Dec.{leb, eqb}
 use lib.ListN.{length, getD, drop, length-drop}
 use Rattle.base.specs.Limits.{symbolLimit, edge, patternLimit, roomSize, wordLimit}
-use Rattle.base.specs.declared.Check.the-variants.{Fine, Refused}
-use Rattle.base.specs.declared.Ground.the-variants.{NotLetter, WordEmpty, WordLong}
-use Rattle.base.specs.Grounds.{refuseIf}
-use Rattle.base.proofs.Grounds.{both-fine}
-use Rattle.base.proofs.Lists.{clash}
+use Rattle.base.specs.declared.Check.the-variants.{Fine}
 use Rattle.rooms.specs.Rooms.{written, bit}
 use Rattle.rooms.proofs.Sheets.{written-low}
-use Rattle.words.specs.Symbols.{small, lower, letter, symbolOf}
-use Rattle.words.specs.Words.{allLetters, judgeWord, wordSymbols, rowOf, inner}
+use Rattle.words.specs.Symbols.{apostrophe, small, lower, letter, symbolOf}
+use Rattle.words.specs.Words.{judgeWord, wordByte, wordSymbols, rowOf, inner}
 use Rattle.words.proofs.Theorems.{letter-lower}
-use Rattle.words.proofs.Laws.{small-low, small-high, symbol-small}
+use Rattle.words.proofs.Laws.{small-low, small-high, symbol-small, apostrophe-lower, byte-letter, word-byte}
 use Rattle.lookup.specs.Find.{findEither}
 use Rattle.liang.specs.Patterns.{Pattern}
 use Rattle.liang.specs.Levels.{liang}
@@ -44,21 +40,21 @@ letter-symbol b e =
     let z : symbolOf (lower b) ≤ symbolLimit = omega (arith, small-high (lower b) s, symbol-small (lower b) s) in
     rw (le-leb 1 (symbolOf (lower b)) a, le-leb (symbolOf (lower b)) symbolLimit z)
 
-letters-symbols : (at : ℕ) (word : List ℕ) → allLetters at word ≡ Fine → allSymbols (wordSymbols word ++ (edge ∷ [])) ≡ true
-unfolding allLetters wordSymbols allSymbols
-letters-symbols at [] e = refl
-letters-symbols at (b ∷ word) e = go (letter b) refl e (letters-symbols (at + 1) word)
+byte-symbol : (b : ℕ) → wordByte b ≡ true → (leb 1 (symbolOf (lower b)) && leb (symbolOf (lower b)) symbolLimit) ≡ true
+byte-symbol b e = go (eqb b apostrophe) refl
   where
-    go : (z : Bool) → letter b ≡ z → cond z (allLetters (at + 1) word) (Refused (NotLetter at)) ≡ Fine
-        → (allLetters (at + 1) word ≡ Fine → allSymbols (wordSymbols word ++ (edge ∷ [])) ≡ true)
-        → ((leb 1 (symbolOf (lower b)) && leb (symbolOf (lower b)) symbolLimit) && allSymbols (wordSymbols word ++ (edge ∷ []))) ≡ true
-    go true p q next = rw (letter-symbol b p, next q)
-    go false p q next = clash cc
+    go : (q : Bool) → eqb b apostrophe ≡ q → (leb 1 (symbolOf (lower b)) && leb (symbolOf (lower b)) symbolLimit) ≡ true
+    go true q = rw (← apostrophe-lower b (eqb-true b apostrophe q))
+    go false q = letter-symbol b (byte-letter b e (eqb-false b apostrophe q))
+
+bytes-symbols : (word : List ℕ) → ((i : ℕ) → i < length word → wordByte (getD word i 0) ≡ true) → allSymbols (wordSymbols word ++ (edge ∷ [])) ≡ true
+unfolding wordSymbols allSymbols
+bytes-symbols [] e = refl
+bytes-symbols (b ∷ word) e = rw (byte-symbol b (e 0 (omega arith)), bytes-symbols word (λ i h. e (suc i) (omega arith)))
 
 pub row-symbols : (limit : ℕ) (word : List ℕ) → judgeWord limit word ≡ Fine → allSymbols (rowOf word) ≡ true
-unfolding judgeWord rowOf allSymbols
-row-symbols limit word e =
-    letters-symbols 0 word (both-fine (refuseIf (ltb limit (length word)) WordLong) _ (both-fine (refuseIf (eqb (length word) 0) WordEmpty) _ e .1) .1)
+unfolding rowOf allSymbols
+row-symbols limit word e = bytes-symbols word (word-byte limit word e)
 
 alphabet-drop : (n : ℕ) (row : List ℕ) → allSymbols row ≡ true → allSymbols (drop n row) ≡ true
 alphabet-drop zero row e = e

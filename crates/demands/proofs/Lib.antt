@@ -1,4 +1,5 @@
 pub mod Grounds
+pub mod Before
 pub mod Liang
 pub mod Accepted
 pub mod Hyphens

@@ -9,8 +9,9 @@ use Rattle.base.specs.Limits.{roomSize}
 use Rattle.base.specs.Grounds.{Said, Finds, Refuses, firstOf}
 use Rattle.rooms.specs.Rooms.{sheetFrom, sheet, nonzero, bit}
 use Rattle.words.specs.Symbols.{small, capital, letter, lower, digit, symbolOf, symbolsOf}
-use Rattle.words.specs.Words.{leading, wordGrounds, allLetters, judgeWord, wordSymbols, rowOf, inner}
-use Rattle.lines.specs.Lines.{glue, cut, isNil, startsWith, anyOf, patternForm, goodPattern, exceptionForm, goodException}
+use Rattle.words.specs.Words.{startsLetter, isBetween, withApostrophes, leading, groundsBy, allFit, judgeLength, judgeBy, wordSymbols, rowOf, inner}
+use Rattle.lines.specs.Apostrophes.{letterSymbol, letterNext, apostrophesFit}
+use Rattle.lines.specs.Lines.{glue, cut, isNil, startsWith, anyOf, lineLetter, patternForm, patternBytes, goodPattern, exceptionForm, exceptionBytes, goodException}
 use Rattle.lines.specs.Order.{before}
 use Rattle.lists.specs.Lists.{goodLine, firstBad, judgeLines, judgeSize, judgeLists, patternGrounds, listGrounds}
 use Rattle.base.specs.Tests.{sameList, allFrom, smallest}
@@ -63,6 +64,13 @@ hyphenateCall left right table customer house word =
     inNumbers (foundOr (hyphenateGrounds left right word customer house table roomSize) (breaksSheet left right word customer house table) (breaksLooks word customer house table))
     ++ take (length word - 1) (drop 1 (breaksSheet left right word customer house table))
 
+-- What is said of a pattern text, and of a house list.
+unfoldable pub patternsCall : List ℕ → List ℕ
+patternsCall text = inNumbers (firstOf (Finds []) (patternGrounds text))
+
+unfoldable pub exceptionsCall : List ℕ → List ℕ
+exceptionsCall text = inNumbers (firstOf (Finds []) (listGrounds [] text))
+
 -- The line that the lookup shows.
 unfoldable pub lookupCall : List ℕ → List ℕ → List ℕ → List ℕ
 lookupCall customer house word = lineOf customer house (locate word customer house)
@@ -107,11 +115,12 @@ allOf (b ∷ t) = b && allOf t
 unfoldable pub table : List Bool
 table =
     let nineTable = packed nine in
+    let apostropheTable = packed (line "l'1e") in
     let nineLayout = basesOf (patternsOf nine) in
     let ninePaths : List (List ℕ) = bytes "h" ∷ bytes "i" ∷ bytes "n" ∷ bytes "o" ∷ bytes "t" ∷ bytes "he" ∷ bytes "hy" ∷ bytes "na" ∷ bytes "ti" ∷ bytes "hen" ∷ bytes "hyp" ∷ bytes "hena" ∷ [] in
     let nineBases : List ℕ = 1 ∷ 2 ∷ 3 ∷ 4 ∷ 7 ∷ 5 ∷ 6 ∷ 8 ∷ 9 ∷ 10 ∷ 13 ∷ 11 ∷ [] in
     -- the nine patterns: "Good, ascending."
-    sameList (inNumbers (firstOf (Finds []) (patternGrounds nine))) (0 ∷ [])
+    sameList (patternsCall nine) (0 ∷ [])
     -- ""hyphenation": levels 0 3 0 0 2 5 4 2 0 2; margins 2, 3 give hy-phen-ation."
     ∷ sameList (levels nine (bytes "hyphenation")) (0 ∷ 3 ∷ 0 ∷ 0 ∷ 2 ∷ 5 ∷ 4 ∷ 2 ∷ 0 ∷ 2 ∷ [])
     ∷ sameList (breaks 2 3 nine [] [] (bytes "hyphenation")) (0 ∷ 1 ∷ 0 ∷ 0 ∷ 0 ∷ 1 ∷ 0 ∷ 0 ∷ 0 ∷ 0 ∷ [])
@@ -154,8 +163,49 @@ table =
     ∷ sameList (levelsCall emptyTable (letters 63)) (0 ∷ 0 ∷ 65 ∷ [])
     ∷ sameList (levelsCall emptyTable (letters 64)) (4 ∷ 0 ∷ 0 ∷ [])
     ∷ sameList (levelsCall emptyTable (letters 63 ++ (49 ∷ []))) (4 ∷ 0 ∷ 0 ∷ [])
+    -- CR 5: "Passes need l'entrata as one word." It has nine letters, so that 11 places take one look each.
+    ∷ sameList (levelsCall emptyTable (bytes "l'entrata")) (0 ∷ 0 ∷ 11 ∷ [])
+    ∷ sameList (levelsCall emptyTable (bytes "L'Entrata")) (0 ∷ 0 ∷ 11 ∷ [])
+    -- "anywhere else it is refusal 3 at its place"
+    ∷ sameList (levelsCall emptyTable (bytes "'a")) (3 ∷ 0 ∷ 0 ∷ [])
+    ∷ sameList (levelsCall emptyTable (bytes "a'")) (3 ∷ 0 ∷ 1 ∷ [])
+    ∷ sameList (levelsCall emptyTable (bytes "a''b")) (3 ∷ 0 ∷ 1 ∷ [])
+    ∷ sameList (levelsCall emptyTable (bytes "a'1")) (3 ∷ 0 ∷ 1 ∷ [])
+    ∷ sameList (levelsCall emptyTable (bytes "a'b'")) (3 ∷ 0 ∷ 3 ∷ [])
+    -- It "counts as a letter of the word", for its limit too.
+    ∷ sameList (levelsCall emptyTable (letters 31 ++ bytes "'" ++ letters 31)) (0 ∷ 0 ∷ 65 ∷ [])
+    ∷ sameList (levelsCall emptyTable (letters 32 ++ bytes "'" ++ letters 31)) (4 ∷ 0 ∷ 0 ∷ [])
+    -- "a pattern may begin or end with it"; "The edge stays 27, and 28 sorts last."
+    ∷ sameList (patternsCall (line "l'1e" ++ line "z1" ++ line ".a1" ++ line "'a1" ++ line "'a1." ++ line "'a'1")) (0 ∷ [])
+    ∷ sameList (patternsCall (line "'a1" ++ line "z1")) (7 ∷ 0 ∷ 4 ∷ [])
+    ∷ sameList (patternsCall (line "'a1" ++ line ".a1")) (7 ∷ 0 ∷ 4 ∷ [])
+    -- "elsewhere it makes the line bad": beside an edge, beside another, and where none of the 26 is left.
+    ∷ sameList (patternsCall (line ".'a1")) (7 ∷ 0 ∷ 0 ∷ [])
+    ∷ sameList (patternsCall (line "a1'.")) (7 ∷ 0 ∷ 0 ∷ [])
+    ∷ sameList (patternsCall (line "''a1")) (7 ∷ 0 ∷ 0 ∷ [])
+    ∷ sameList (patternsCall (line "a'1'b")) (7 ∷ 0 ∷ 0 ∷ [])
+    ∷ sameList (patternsCall (line "'1")) (7 ∷ 0 ∷ 0 ∷ [])
+    -- Its levels, its table (C 30: l 12, the apostrophe's cell 29, e 7), its breaks, and the count of 10 + 3 looks.
+    ∷ sameList (levels (line "l'1e") (bytes "l'entrata")) (0 ∷ 1 ∷ 0 ∷ 0 ∷ 0 ∷ 0 ∷ 0 ∷ 0 ∷ [])
+    ∷ sameList (sizes apostropheTable) (191 ∷ 30 ∷ 1 ∷ [])
+    ∷ sameList (layoutTable (patternsOf (line "l'1e"))) apostropheTable
+    ∷ sameList (map (baseOf apostropheTable) (bytes "l" ∷ bytes "l'" ∷ [])) (1 ∷ 2 ∷ [])
+    ∷ sameList (hyphenateCall 2 3 apostropheTable [] [] (bytes "L'Entrata")) (0 ∷ 1 ∷ 13 ∷ 0 ∷ 1 ∷ 0 ∷ 0 ∷ 0 ∷ 0 ∷ 0 ∷ 0 ∷ [])
+    -- The checker "read[s] 28 symbols": it takes this table with its list, and refuses a path by 28 that the list hasn't.
+    ∷ sameList (inNumbers (firstOf (Finds []) (checkGrounds (line "l'1e") apostropheTable))) (0 ∷ [])
+    ∷ sameList (inNumbers (firstOf (Finds []) (checkGrounds (line "l1") (packed (line "l1" ++ line "l'1e"))))) (12 ∷ 0 ∷ 0 ∷ [])
+    -- "In an exception line it counts as a letter, for the limit and beside a hyphen too", and for the margins: l' has two letters.
+    ∷ sameList (hyphenateCall 2 3 emptyTable (line "l'-en-tra-ta") [] (bytes "l'entrata")) (0 ∷ 2 ∷ 0 ∷ 0 ∷ 1 ∷ 0 ∷ 1 ∷ 0 ∷ 0 ∷ 0 ∷ 0 ∷ [])
+    ∷ sameList (hyphenateCall 3 2 emptyTable [] (line "l'-en-tra-ta") (bytes "l'entrata")) (0 ∷ 2 ∷ 0 ∷ 0 ∷ 0 ∷ 0 ∷ 1 ∷ 0 ∷ 0 ∷ 1 ∷ 0 ∷ [])
+    ∷ sameList (lookupCall (line "l'-en-tra-ta") [] (bytes "L'ENTRATA")) (bytes "l'-en-tra-ta")
+    ∷ sameList (exceptionsCall (line "l'en" ++ line "m'-en" ++ line "n-'en" ++ line "o-'-en")) (0 ∷ [])
+    ∷ sameList (exceptionsCall (line "a'-'b")) (6 ∷ 2 ∷ 0 ∷ [])
+    ∷ sameList (exceptionsCall (line "l'")) (6 ∷ 2 ∷ 0 ∷ [])
+    ∷ sameList (exceptionsCall (line "'l")) (6 ∷ 2 ∷ 0 ∷ [])
+    ∷ sameList (exceptionsCall (letters 31 ++ bytes "-'-" ++ letters 31 ++ bytes "\n")) (0 ∷ [])
+    ∷ sameList (exceptionsCall (letters 32 ++ bytes "-'-" ++ letters 31 ++ bytes "\n")) (6 ∷ 2 ∷ 0 ∷ [])
     ∷ []
 
 pub figures : allOf table ≡ true
-unfolding table nine count levels breaks small capital letter lower digit symbolOf symbolsOf firstOf leading wordGrounds wordSymbols rowOf inner glue cut isNil startsWith anyOf patternForm goodPattern exceptionForm goodException before goodLine firstBad judgeLines patternGrounds listGrounds sameList findLine find findEither levelsFrom patternOf patternsOf begins levelHere levelOf highest liang hyphenAt inMargins odd lineBreak levelBreak isBreak badMargin levelsCall hyphenateCall lookupCall judgeLookup locate judgeWord allLetters judgeLists judgeSize emptyTable numberAt cellCount entryCount formed tableGrounds cellsFrom entriesFrom cellsOf entriesOf look entryAt setting chainStep chainFrom chain setStep setFrom lookStep looksFrom settings looks highestSet sheetFrom sheet nonzero levelAt levelSheet wordLooks breakSheet breakLooks roomGrounds marginGrounds levelsGrounds hyphenateGrounds packed baseOf sizes common onward along soundStep soundFrom sound nextIn allFrom kindsFrom kindsTest exactTest childAt noneBetween passedOver followStep follow besides patternsRight rightTest checkGrounds putNumber isFree serves smallest baseFor inside putCell putCells cellOf putLink placeAt place opens placeLength placeLengths layoutOf usedFrom holds findEntry putEntry enterAt enter enterLevels enterPattern putOutput outputOf outputsOf putKinds bytesOf finish fitLayout firstFit layoutSizes goesOn hasBase usedBy usesCell fitsAt reach leastBase nextBase pathsAt pathsFrom longestLength pathsOf placeAll basesOf topFrom topOf cellsNeeded equal firstEqual addAt addLevel addLevels addPattern addPatterns entryList entriesNeeded outputFrom outputFor twoBytes headBytes cellBytes entryBytes linkTo pathCell cellAmong numberedCells allEntries layoutTable
+unfolding table nine count levels breaks small capital letter lower digit symbolOf symbolsOf firstOf startsLetter isBetween withApostrophes leading groundsBy wordSymbols rowOf inner glue cut isNil startsWith anyOf letterSymbol letterNext apostrophesFit lineLetter patternForm patternBytes goodPattern exceptionForm exceptionBytes goodException before goodLine firstBad judgeLines patternGrounds listGrounds sameList findLine find findEither levelsFrom patternOf patternsOf begins levelHere levelOf highest liang hyphenAt inMargins odd lineBreak levelBreak isBreak badMargin levelsCall hyphenateCall patternsCall exceptionsCall lookupCall judgeLookup locate allFit judgeLength judgeBy judgeLists judgeSize emptyTable numberAt cellCount entryCount formed tableGrounds cellsFrom entriesFrom cellsOf entriesOf look entryAt setting chainStep chainFrom chain setStep setFrom lookStep looksFrom settings looks highestSet sheetFrom sheet nonzero levelAt levelSheet wordLooks breakSheet breakLooks roomGrounds marginGrounds levelsGrounds hyphenateGrounds packed baseOf sizes common onward along soundStep soundFrom sound nextIn allFrom kindsFrom kindsTest exactTest childAt noneBetween passedOver followStep follow besides patternsRight rightTest checkGrounds putNumber isFree serves smallest baseFor inside putCell putCells cellOf putLink placeAt place opens placeLength placeLengths layoutOf usedFrom holds findEntry putEntry enterAt enter enterLevels enterPattern putOutput outputOf outputsOf putKinds bytesOf finish fitLayout firstFit layoutSizes goesOn hasBase usedBy usesCell fitsAt reach leastBase nextBase pathsAt pathsFrom longestLength pathsOf placeAll basesOf topFrom topOf cellsNeeded equal firstEqual addAt addLevel addLevels addPattern addPatterns entryList entriesNeeded outputFrom outputFor twoBytes headBytes cellBytes entryBytes linkTo pathCell cellAmong numberedCells allEntries layoutTable
 figures = refl

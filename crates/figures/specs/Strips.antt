@@ -6,13 +6,13 @@ use mathlib.Core.Path.{_≡_, refl}
 use lib.Dec.{eqb}
 use lib.ListN.{length, replicate}
 use lib.Ieee.{Float, nan, inf, binary64, round, add, lt, isNan, ofBits, toBits}
-use Rattle.base.specs.Limits.{roomSize, widthCount}
+use Rattle.base.specs.Limits.{roomSize, widthCount, letterLimit}
 use Rattle.base.specs.Grounds.{firstOf, oneOf}
 use Rattle.base.specs.Tests.{sameList}
 use Rattle.rooms.specs.Rooms.{sheetFrom, sheet, bit}
 use Rattle.words.specs.Symbols.{small, capital, letter, lower, symbolOf}
-use Rattle.words.specs.Words.{leading, wordGrounds}
-use Rattle.gauge.specs.Widths.{zeroWidth, widthLimit, badWidth, anyBad, letterWidth, widthTo, fitsIn}
+use Rattle.words.specs.Words.{startsLetter, isBetween, withApostrophes, leading, groundsBy}
+use Rattle.gauge.specs.Widths.{zeroWidth, widthLimit, badWidth, anyBad, widthPlace, letterWidth, widthTo, fitsIn}
 use Rattle.gauge.specs.Fit.{gaugeOf, isMarked, wholeFits, hyphenFits, lastOf, fitValues, fitGrounds, fitAnswer}
 use Rattle.figures.specs.Samples.{bytes}
 use Rattle.figures.specs.Figures.{inNumbers, allOf}
@@ -25,9 +25,13 @@ near num den = round binary64 false num den
 abbrev pub double : ℕ → Float
 double bits = ofBits binary64 bits
 
--- 26 widths: some for the first letters, and one for all others.
+-- 27 widths: some for the first letters, and one for all others, the apostrophe too.
 unfoldable pub lettersOf : List Float → Float → List Float
 lettersOf some other = some ++ replicate (widthCount - length some) other
+
+-- One width for the 26 letters, and the apostrophe's.
+unfoldable pub besideLetters : Float → Float → List Float
+besideLetters letter apostrophe = replicate letterLimit letter ++ (apostrophe ∷ [])
 
 -- A room whose breaks are these gaps.
 unfoldable pub roomOf : List ℕ → List ℕ
@@ -57,6 +61,7 @@ strips =
     let tenth = near 1 10 in
     let tenths = lettersOf [] tenth in
     let one = near 1 1 in
+    let two = near 2 1 in
     let half = near 1 9007199254740992 in
     let ten = bytes "aaaaaaaaaa" in
     -- 0.1 ten times is 0.9999999999999999, the double below 1.
@@ -96,8 +101,15 @@ strips =
     -- "after 5, 2, 4, 3"
     ∷ sameList (fitCall nan one (lettersOf [] one) (bytes "a1") []) (3 ∷ 0 ∷ 1 ∷ [])
     ∷ sameList (fitCall nan one (lettersOf [] one) [] []) (2 ∷ 0 ∷ 0 ∷ [])
+    -- CR 5: "a 27th width", the apostrophe's: where it is 0, "a'z" is as wide as "az"; where it is 1, "a'" fits a line of 2.
+    ∷ sameList (fitCall one two (besideLetters one zeroWidth) (bytes "a'z") (2 ∷ [])) whole
+    ∷ sameList (fitCall zeroWidth two (besideLetters one one) (bytes "a'z") (1 ∷ 2 ∷ [])) (after 2)
+    ∷ sameList (fitCall zeroWidth two (besideLetters one two) (bytes "a'z") (1 ∷ 2 ∷ [])) (after 1)
+    -- It is judged where no apostrophe stands in the word, and a stray one is told before it.
+    ∷ sameList (fitCall one two (besideLetters one nan) (bytes "az") []) refused
+    ∷ sameList (fitCall one two (besideLetters one nan) (bytes "a'") []) (3 ∷ 0 ∷ 1 ∷ [])
     ∷ []
 
 pub strip-figures : allOf strips ≡ true
-unfolding strips lettersOf roomOf fitCall sheetFrom sheet oneOf sameList firstOf small capital letter lower symbolOf leading wordGrounds badWidth anyBad letterWidth widthTo fitsIn isMarked wholeFits hyphenFits lastOf fitValues fitGrounds fitAnswer round add lt isNan ofBits toBits
+unfolding strips lettersOf besideLetters roomOf fitCall sheetFrom sheet oneOf sameList firstOf small capital letter lower symbolOf startsLetter isBetween withApostrophes leading groundsBy badWidth anyBad widthPlace letterWidth widthTo fitsIn isMarked wholeFits hyphenFits lastOf fitValues fitGrounds fitAnswer round add lt isNan ofBits toBits
 strip-figures = refl

@@ -13,7 +13,7 @@ use Rattle.base.specs.Grounds.{Said, Finds, Refuses, firstOf}
 use Rattle.base.specs.Tests.{sameList}
 use Rattle.rooms.specs.Rooms.{sheetFrom, sheet, nonzero}
 use Rattle.words.specs.Symbols.{small, capital, letter}
-use Rattle.words.specs.Words.{leading, wordGrounds}
+use Rattle.words.specs.Words.{lettersAlone, leading, groundsBy}
 use Rattle.tables1980.specs.Suffix.{suffixWords, suffix}
 use Rattle.tables1980.specs.Prefix.{prefixWords, prefix}
 use Rattle.tables1980.specs.Pairs.{pairWords, btable}
@@ -160,7 +160,10 @@ edges =
     ∷ says (bytes "nation") 64 (0 ∷ 0 ∷ 1 ∷ 7 ∷ [])
     ∷ says [] 63 (5 ∷ 0 ∷ 0 ∷ [])
     ∷ says [] 64 (2 ∷ 0 ∷ 0 ∷ [])
+    ∷ says (bytes "na1tion") 64 (3 ∷ 0 ∷ 2 ∷ [])
+    -- CR 5: "The 1980 machine refuses it with 3."
     ∷ says (bytes "na'tion") 64 (3 ∷ 0 ∷ 2 ∷ [])
+    ∷ says (bytes "l'entrata") 64 (3 ∷ 0 ∷ 1 ∷ [])
     ∷ says (bytes "hyph") 64 (0 ∷ 0 ∷ 0 ∷ 0 ∷ [])
     ∷ []
 
@@ -169,5 +172,5 @@ unfolding words sameList sheetFrom sheet suffixWords suffix prefixWords prefix p
 figures = refl
 
 pub edge-figures : allOf edges ≡ true
-unfolding edges sameList sheetFrom sheet nonzero suffixWords suffix prefixWords prefix pairWords btable sheetOf mem clear vowel finalAt interps suffixes phase2 suf.decode joinsH withH isPair isWeak liquid doubled endsInAge endsInEst weakly paired between third second pair endsInEr markAt scanVowel passVowel onward middles phase4 interpp prefixes phase3 pre.decode fromPrefixes fromSuffixes run machine shows inPrint isBreak breakSheet small capital letter leading wordGrounds grounds1980 valuesOf answer1980 firstOf
+unfolding edges sameList sheetFrom sheet nonzero suffixWords suffix prefixWords prefix pairWords btable sheetOf mem clear vowel finalAt interps suffixes phase2 suf.decode joinsH withH isPair isWeak liquid doubled endsInAge endsInEst weakly paired between third second pair endsInEr markAt scanVowel passVowel onward middles phase4 interpp prefixes phase3 pre.decode fromPrefixes fromSuffixes run machine shows inPrint isBreak breakSheet small capital letter lettersAlone leading groundsBy grounds1980 valuesOf answer1980 firstOf
 edge-figures = refl

@@ -1,3 +1,4 @@
 pub mod Cells
 pub mod Entries
 pub mod Table
+pub mod Alphabet

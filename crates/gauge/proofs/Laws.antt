@@ -11,7 +11,7 @@ use lib.ListN.{length, getD, drop, drop-of-length-le}
 use lib.Seq.{drop-cons}
 use lib.Ieee.{Float, nan, inf, fin, binary64, add, lt, ne, isNan}
 use lib.Ieee.Compare.{differs-from-itself, nan-differs}
-use Rattle.base.specs.Limits.{roomSize, wordLimit, widthCount}
+use Rattle.base.specs.Limits.{roomSize, wordLimit, widthCount, letterLimit, apostropheSymbol}
 use Rattle.base.specs.Grounds.{Finds, refuseIf}
 use Rattle.base.specs.declared.Check.{Check}
 use Rattle.base.specs.declared.Check.the-variants.{Fine, Refused}
@@ -19,11 +19,11 @@ use Rattle.base.specs.declared.Ground.{Ground}
 use Rattle.base.specs.declared.Ground.the-variants.{RoomShort, BadWidth}
 use Rattle.base.proofs.Grounds.{both-fine, not-refused}
 use Rattle.base.proofs.Lists.{never, untrue}
-use Rattle.words.specs.Symbols.{small, letter, lower, symbolOf}
-use Rattle.words.specs.Words.{judgeWord}
-use Rattle.words.proofs.Laws.{small-low, small-high, symbol-small, word-some, word-fits, word-letter}
+use Rattle.words.specs.Symbols.{apostrophe, small, letter, lower, symbolOf}
+use Rattle.words.specs.Words.{judgeWord, wordByte}
+use Rattle.words.proofs.Laws.{small-low, small-high, symbol-small, apostrophe-lower, byte-letter, word-some, word-fits, word-byte}
 use Rattle.words.proofs.Theorems.{letter-lower}
-use Rattle.gauge.specs.Widths.{zeroWidth, widthLimit, badWidth, anyBad, letterWidth, widthTo, fitsIn}
+use Rattle.gauge.specs.Widths.{zeroWidth, widthLimit, badWidth, anyBad, widthPlace, letterWidth, widthTo, fitsIn}
 use Rattle.gauge.specs.Fit.{isMarked, wholeFits, hyphenFits, breakFits, lastOf, breakFound, breakOrNone, fitValues, given, judgeFit, fitSaid}
 use Rattle.gauge.specs.declared.Gauge.{Gauge}
 use Rattle.gauge.specs.declared.Fitting.the-variants as fittings
@@ -113,7 +113,7 @@ fit-judged g widths word size p e =
     (b .0, ltb-false size roomSize (not-refused (ltb size roomSize) RoomShort (a .0)), not-refused (anyBad (given g widths)) BadWidth (b .1))
 
 -- a letter's number in the alphabet, 1 to 26
-letter-range : (b : ℕ) → letter b ≡ true → (1 ≤ symbolOf (lower b)) × (symbolOf (lower b) ≤ widthCount)
+letter-range : (b : ℕ) → letter b ≡ true → (1 ≤ symbolOf (lower b)) × (symbolOf (lower b) ≤ letterLimit)
 letter-range b e =
     let s : small (lower b) ≡ true = sym (letter-lower b) ∙ e in
     let m = symbol-small (lower b) s in
@@ -125,13 +125,20 @@ getD-default [] k h = absurd (omega arith)
 getD-default (x ∷ w) zero h = refl
 getD-default (x ∷ w) (suc k) h = getD-default w k (omega arith)
 
-module _ (widths : List Float) (b : ℕ) (p : (length widths ≡ widthCount) × (letter b ≡ true)) {n : ℕ} (q : n ≡ symbolOf (lower b)) where
-  pub letter-number : (1 ≤ n) × (n ≤ widthCount)
-  letter-number = (omega (arith, letter-range b (p .1) .0), omega (arith, letter-range b (p .1) .1))
+module _ (widths : List Float) (b : ℕ) (p : (length widths ≡ widthCount) × (wordByte b ≡ true)) where
+  pub apostrophe-is : b ≡ apostrophe → getD widths letterLimit nan ≡ letterWidth widths b
+  unfolding letterWidth widthPlace
+  apostrophe-is e = getD-default widths letterLimit (omega (arith, p .0)) ∙ rw (← apostrophe-lower b e)
 
-  pub letter-is : getD widths (n - 1) nan ≡ letterWidth widths b
-  unfolding letterWidth
-  letter-is = getD-default widths (n - 1) (omega (arith, p .0, letter-number .0, letter-number .1)) ∙ rw q
+  module _ (e : b ≡ apostrophe → ⊥) {n : ℕ} (q : n ≡ symbolOf (lower b)) where
+    pub letter-number : (1 ≤ n) × (n ≤ letterLimit)
+    letter-number = let r = letter-range b (byte-letter b (p .1) e) in (omega (arith, r .0), omega (arith, r .1))
+
+    pub letter-is : getD widths (n - 1) nan ≡ letterWidth widths b
+    unfolding letterWidth widthPlace
+    letter-is =
+        getD-default widths (n - 1) (omega (arith, p .0, letter-number .0, letter-number .1))
+        ∙ rw (← q, ne-eqb n apostropheSymbol (λ z. omega (arith, z, letter-number .1)))
 
 pub fits-is : (line width : Float) → not (lt line width) ≡ fitsIn line width
 unfolding fitsIn
@@ -157,8 +164,8 @@ module _ (widths : List Float) (word room : List ℕ) (p : (length widths ≡ wi
   pub letter-at : (i : ℕ) → i ≤ length word - 1 → i < length word
   letter-at i h = omega (arith, some-letter)
 
-  pub measured-letter : (i : ℕ) → i ≤ length word - 1 → (length widths ≡ widthCount) × (letter (getD word i 0) ≡ true)
-  measured-letter i h = (p .0, word-letter wordLimit word (p .1) i (letter-at i h))
+  pub measured-letter : (i : ℕ) → i ≤ length word - 1 → (length widths ≡ widthCount) × (wordByte (getD word i 0) ≡ true)
+  measured-letter i h = (p .0, word-byte wordLimit word (p .1) i (letter-at i h))
 
   pub gap-at : (i : ℕ) → i < length word - 1 → i + 1 < length room
   gap-at i h = omega (arith, word-fits wordLimit word (p .1), p .2)

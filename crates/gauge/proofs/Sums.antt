@@ -21,7 +21,7 @@ use lib.Ieee.Order.{transfer, le-of-values, round-mono}
 use lib.Ieee.Scale.{finite}
 use lib.Ieee.Positive.{num, den, den-pos, through}
 use Rattle.words.specs.Symbols.{lower, symbolOf}
-use Rattle.gauge.specs.Widths.{zeroWidth, badWidth, anyBad, letterWidth, widthTo, fitsIn}
+use Rattle.gauge.specs.Widths.{zeroWidth, badWidth, anyBad, widthPlace, letterWidth, widthTo, fitsIn}
 
 -- ---- what isn't refused
 
@@ -74,7 +74,7 @@ each-fine (x ∷ rest) e (suc i) = each-fine rest (nor (badWidth x) (anyBad rest
 -- So every letter has a width.
 pub letter-width : (widths : List Float) → anyBad widths ≡ false → (b : ℕ) → Width (letterWidth widths b)
 unfolding letterWidth
-letter-width widths e b = judged-width _ (each-fine widths e (symbolOf (lower b) - 1))
+letter-width widths e b = judged-width _ (each-fine widths e (widthPlace (symbolOf (lower b))))
 
 -- ---- values with the sign of plus, as fractions
 

@@ -20,7 +20,7 @@ use Rattle.base.proofs.Grounds.{Ordered, judged-by, said-found, said-refused}
 use Rattle.base.proofs.Lists.{never, both, untrue}
 use Rattle.base.proofs.Order.{finds-exactly, last-exactly, none-found}
 use Rattle.words.specs.Symbols.{small, capital, lower, symbolOf}
-use Rattle.words.specs.Words.{wordGrounds, judgeWord, wordSymbols}
+use Rattle.words.specs.Words.{groundsBy, wordGrounds, judgeWord, wordSymbols}
 use Rattle.words.proofs.Laws.{word-fits}
 use Rattle.words.proofs.Theorems.{same-judgement, same-symbols, same-length}
 use Rattle.gauge.specs.Widths.{zeroWidth, widthLimit, badWidth, anyBad, letterWidth, widthTo}
@@ -32,12 +32,12 @@ use Rattle.gauge.proofs.Order.{fit-ordered}
 use Rattle.gauge.proofs.Laws.{fit-judged}
 use Rattle.gauge.proofs.Sums.{nor, sum-finite, hyphened-finite, fits-before}
 
--- The limit of a width is the number 1,000, and all widths given are 28.
+-- The limit of a width is the number 1,000, and all widths given are 29.
 pub limit-is-thousand : widthLimit ≡ ofInt binary64 (pos 1000)
 unfolding ofInt
 limit-is-thousand = refl
 
-pub given-count : (g : Gauge) (widths : List Float) → length widths ≡ widthCount → length (given g widths) ≡ 28
+pub given-count : (g : Gauge) (widths : List Float) → length widths ≡ widthCount → length (given g widths) ≡ 29
 given-count g widths e = omega (arith, e)
 
 -- the last number that passes a test, from both sides
@@ -262,7 +262,7 @@ module _ (g : Gauge) (widths : List Float) (word room : List ℕ) where
     -- "A given width outside 0 to 1,000, or not-a-number, is refusal 13, after 5, 2, 4, 3": exactly where one of all widths given is so and
     -- none of the others holds.
     pub bad-width-exactly : (fitSaid r ≡ Refuses (plain 13)) ↔ ((anyHolds (on 5 (ltb (length room) roomSize) ∷ wordGrounds wordLimit word) ≡ false) × SomeOutside g widths)
-    unfolding fitAnswer fitGrounds wordGrounds oneOf
+    unfolding fitAnswer fitGrounds groundsBy oneOf
     bad-width-exactly =
         let e = last-exactly (on 5 (ltb (length room) roomSize) ∷ wordGrounds wordLimit word) 13 (anyBad (given g widths)) (fitValues g widths word room) refl in
         let o = any-outside (given g widths) in

@@ -10,8 +10,7 @@ ghost use lib.ListN.{length};
 ghost use Rattle.base.specs.Limits.{roomSize, wordLimit, widthCount};
 ghost use Rattle.base.specs.Grounds.{Finds, says, firstOf};
 ghost use Rattle.base.specs.declared.Check.{Check};
-ghost use Rattle.words.specs.Symbols.{letter};
-ghost use Rattle.words.specs.Words.{judgeWord};
+ghost use Rattle.words.specs.Words.{judgeWord, wordByte};
 ghost use Rattle.gauge.specs.Widths.{badWidth, anyBad, letterWidth, fitsIn};
 ghost use Rattle.gauge.specs.Fit.{given, fitValues, fitGrounds, fitSaid, fitAnswer};
 
@@ -98,11 +97,14 @@ pub fn judge_fit(gauge: Gauge, widths: &[f64; base::WIDTH_COUNT], word: &[u8], s
     Check::Fine
 }
 
-// The width of a letter of either case.
+// The width of a letter of either case, or of an apostrophe, whose width stands behind the letters'.
 fn letter_width(widths: &[f64], b: u8) -> f64
-    requires { ⌜ (length (now widths) ≡ widthCount) × (letter b ≡ true) ⌝ }
+    requires { ⌜ (length (now widths) ≡ widthCount) × (wordByte b ≡ true) ⌝ }
     ensures { λ r. ⌜ r ≡ letterWidth (now (widths .entry)) b ⌝ }
 {
+    if b == words::APOSTROPHE {
+        return widths[base::LETTER_LIMIT as usize];
+    }
     let number = words::letter_symbol(b) as usize;
     widths[number - 1]
 }

@@ -1,19 +1,20 @@
 -- Laws about single lines: one for each way through the code.
 use Prim.Native.Nat.{ℕ, suc, _+_, _-_, _≤_, _<_}
-use mathlib.Core.Bool.{Bool, true, false, cond, not, _&&_, _||_, or-true}
+use mathlib.Core.Bool.{Bool, true, false, cond, not, _&&_, _||_, or-true, or-false, and-true}
 use mathlib.Core.List.{List, [], _∷_}
 use mathlib.Core.Path.{_≡_, refl, sym, _∙_, ap}
 use native.Mathlib.Omega.{arith}
 use native.Mathlib.Nat.{add-zero}
-use borrow.Author.Tests.{lt-leb, le-leb, lt-ltb, le-ltb, eq-eqb, ne-eqb, not-true, not-false}
+use borrow.Author.Tests.{lt-leb, le-leb, lt-ltb, le-ltb, eq-eqb, ne-eqb, eqb-true, not-true, not-false}
 use lib.Dec.{leb, ltb, eqb}
 use lib.ListN.{length, getD, take, drop, length-drop, drop-of-length-le}
 use lib.Seq.{drop-drop, length-take-le}
-use Rattle.base.specs.Limits.{wordLimit, patternLimit}
-use Rattle.base.proofs.Lists.{clash, cons-at}
-use Rattle.words.specs.Symbols.{lineFeed, hyphen, dot, small, digit, symbolOf, symbolsOf}
-use Rattle.words.proofs.Laws.{range-low, small-low, small-not-digit, small-symbol, dot-symbol, other-symbol, digit-not-dot, symbols-skip, symbols-keep}
-use Rattle.lines.specs.Lines.{glue, cut, lineLength, firstLine, isNil, startsWith, anyOf, patternForm, goodPattern, exceptionForm, goodException}
+use Rattle.base.specs.Limits.{wordLimit, patternLimit, letterLimit, edge, apostropheSymbol}
+use Rattle.base.proofs.Lists.{clash, cons-at, never}
+use Rattle.words.specs.Symbols.{lineFeed, hyphen, dot, apostrophe, small, digit, symbolOf, symbolsOf}
+use Rattle.words.proofs.Laws.{range-low, small-low, small-high, small-not-digit, small-not-apostrophe, small-symbol, dot-symbol, apostrophe-symbol, other-symbol, digit-not-dot, digit-not-apostrophe, symbols-skip, symbols-keep}
+use Rattle.lines.specs.Apostrophes.{letterSymbol, letterNext, apostrophesFit, hasApostrophe, fitIfAny}
+use Rattle.lines.specs.Lines.{glue, cut, lineLength, firstLine, isNil, startsWith, anyOf, lineLetter, patternForm, patternBytes, goodPattern, exceptionForm, exceptionBytes, goodException}
 use Rattle.lines.specs.Order.{before}
 use Rattle.lines.specs.Ends.{endIf}
 use Rattle.lines.specs.declared.End.{End}
@@ -85,6 +86,16 @@ pub digit-not-feed : (b : ℕ) → digit b ≡ true → b ≡ lineFeed → ⊥
 unfolding digit
 digit-not-feed b e f = omega (arith, range-low 49 57 b e)
 
+-- a line's letter is a symbol
+pub line-letter-symbol : (b : ℕ) → lineLetter b ≡ true → eqb (symbolOf b) 0 ≡ false
+unfolding lineLetter
+line-letter-symbol b e = go (small b) refl (eqb b apostrophe) refl e
+  where
+    go : (z : Bool) → small b ≡ z → (q : Bool) → eqb b apostrophe ≡ q → (z || q) ≡ true → eqb (symbolOf b) 0 ≡ false
+    go true p q r h = small-symbol b p
+    go false p true r h = apostrophe-symbol b p (eqb-true b apostrophe r)
+    go false p false r h = never h
+
 -- what a line's judgement and its end make of each other
 pub end-bad : {good : Bool} (e : ℕ) → good ≡ false → Bad ≡ endIf good e
 end-bad e g = rw g
@@ -100,43 +111,176 @@ pub ends-good : (good : Bool) (e : ℕ) {r : End} {i : ℕ} → r ≡ endIf good
 ends-good true e p q = (refl, cc)
 ends-good false e p q = clash cc
 
+-- whether an apostrophe was seen, or is among the bytes left
+unfoldable pub seenOr : Bool → List ℕ → Bool
+seenOr seen l = seen || hasApostrophe l
+
+pub seen-start : (l : List ℕ) → hasApostrophe l ≡ seenOr false l
+unfolding seenOr
+seen-start l = refl
+
+module _ (w : List ℕ) (i : ℕ) (h : i < length w) (seen : Bool) where
+  pub seen-other : (getD w i 0 ≡ lineFeed → ⊥) → (getD w i 0 ≡ apostrophe → ⊥) → seenOr seen (firstLine (drop i w)) ≡ seenOr seen (firstLine (drop (i + 1) w))
+  unfolding seenOr hasApostrophe
+  seen-other f q = rw (first-on w i h f, ne-eqb (getD w i 0) apostrophe q)
+
+  pub seen-apostrophe : getD w i 0 ≡ apostrophe → seenOr seen (firstLine (drop i w)) ≡ seenOr true (firstLine (drop (i + 1) w))
+  unfolding seenOr hasApostrophe
+  seen-apostrophe q = rw (first-on w i h (λ f. omega (arith, f, q)), eq-eqb (getD w i 0) apostrophe q) (or-true seen)
+
+  pub seen-feed : getD w i 0 ≡ lineFeed → seenOr seen (firstLine (drop i w)) ≡ seen
+  unfolding seenOr hasApostrophe
+  seen-feed f = rw (first-feed w i h f, ne-eqb (getD w i 0) apostrophe (λ q. omega (arith, f, q))) (or-false seen)
+
+-- the apostrophes of a line: what is left to show, where the symbol before is one that waits for what is behind it or not
+unfoldable pub fitRest : Bool → Bool → Bool → List ℕ → Bool
+fitRest ends before waits l = (not waits || letterNext ends l) && apostrophesFit ends before l
+
+pub fit-start : (ends : Bool) (w : List ℕ) → apostrophesFit ends ends (symbolsOf w) ≡ fitRest ends ends false (symbolsOf (drop 0 w))
+unfolding fitRest
+fit-start ends w = refl
+
+module _ (ends before waits : Bool) (w : List ℕ) (i : ℕ) (h : i < length w) {s : ℕ} (p : s ≡ symbolOf (getD w i 0)) where
+  pub fit-skip : s ≡ 0 → fitRest ends before waits (symbolsOf (drop i w)) ≡ fitRest ends before waits (symbolsOf (drop (i + 1) w))
+  fit-skip z = rw (cons-at w i h, symbols-skip (getD w i 0) (drop (i + 1) w) (eq-eqb (symbolOf (getD w i 0)) 0 (sym p ∙ z)))
+
+  module _ (z : s ≡ 0 → ⊥) where
+    next : symbolsOf (drop i w) ≡ s ∷ symbolsOf (drop (i + 1) w)
+    unfolding symbolsOf
+    next = rw (cons-at w i h, ← p, ne-eqb s 0 z)
+
+    pub fit-letter : s ≤ letterLimit → fitRest ends before waits (symbolsOf (drop i w)) ≡ fitRest ends true false (symbolsOf (drop (i + 1) w))
+    unfolding fitRest apostrophesFit letterNext letterSymbol
+    fit-letter k = rw (next, le-leb 1 s (omega arith), le-leb s letterLimit k, ne-eqb s apostropheSymbol (λ q. omega (arith, q)), or-true (not waits))
+
+    module _ (k : letterLimit < s) where
+      pub fit-waits : waits ≡ true → fitRest ends before waits (symbolsOf (drop i w)) ≡ false
+      unfolding fitRest letterNext letterSymbol
+      fit-waits o = rw (next, le-leb 1 s (omega arith), lt-leb s letterLimit k, o)
+
+      module _ (o : waits ≡ false) where
+        pub fit-edge : (s ≡ apostropheSymbol → ⊥) → fitRest ends before waits (symbolsOf (drop i w)) ≡ fitRest ends false waits (symbolsOf (drop (i + 1) w))
+        unfolding fitRest apostrophesFit letterSymbol
+        fit-edge q = rw (next, o, le-leb 1 s (omega arith), lt-leb s letterLimit k, ne-eqb s apostropheSymbol q)
+
+        pub fit-stray : s ≡ apostropheSymbol → not before ≡ true → fitRest ends before waits (symbolsOf (drop i w)) ≡ false
+        unfolding fitRest apostrophesFit
+        fit-stray q b = rw (next, o, eq-eqb s apostropheSymbol q, not-true before b)
+
+        pub fit-apostrophe : s ≡ apostropheSymbol → not before ≡ false → fitRest ends before waits (symbolsOf (drop i w)) ≡ fitRest ends false true (symbolsOf (drop (i + 1) w))
+        unfolding fitRest apostrophesFit letterSymbol
+        fit-apostrophe q b = rw (next, o, eq-eqb s apostropheSymbol q, not-false before b, le-leb 1 s (omega arith), lt-leb s letterLimit k)
+
+module _ (ends before : Bool) {waits : Bool} (w : List ℕ) (i : ℕ) (h : length w ≤ i) where
+  pub fit-last : waits ≡ true → fitRest ends before waits (symbolsOf (drop i w)) ≡ ends
+  unfolding fitRest apostrophesFit letterNext symbolsOf
+  fit-last o = rw (drop-of-length-le w h, o) (and-true ends)
+
+  pub fit-end : waits ≡ false → fitRest ends before waits (symbolsOf (drop i w)) ≡ true
+  unfolding fitRest apostrophesFit letterNext symbolsOf
+  fit-end o = rw (drop-of-length-le w h, o)
+
+-- a line without an apostrophe has none in a wrong place
+none-at : (b : ℕ) → eqb b apostrophe ≡ false → eqb (symbolOf b) apostropheSymbol ≡ false
+unfolding symbolOf
+none-at b q = go (small b) refl (eqb b dot)
+  where
+    go : (z : Bool) → small b ≡ z → (d : Bool) → eqb (cond z (b - 96) (cond d edge (cond (eqb b apostrophe) apostropheSymbol 0))) apostropheSymbol ≡ false
+    go true e d = ne-eqb (b - 96) apostropheSymbol (λ z. omega (arith, small-high b e, z))
+    go false e true = refl
+    go false e false = rw q
+
+pub plain-fit : (ends before : Bool) (line : List ℕ) → hasApostrophe line ≡ false → apostrophesFit ends before (symbolsOf line) ≡ true
+unfolding hasApostrophe apostrophesFit symbolsOf
+plain-fit ends before [] e = refl
+plain-fit ends before (b ∷ t) e = by (eqb b apostrophe) refl e (λ z. plain-fit ends z t)
+  where
+    keep : (z : Bool) → eqb b apostrophe ≡ false → ((x : Bool) → apostrophesFit ends x (symbolsOf t) ≡ true)
+        → apostrophesFit ends before (cond z (symbolsOf t) (symbolOf b ∷ symbolsOf t)) ≡ true
+    keep true q next = next before
+    keep false q next = rw (none-at b q, next (letterSymbol (symbolOf b)))
+
+    by : (z : Bool) → eqb b apostrophe ≡ z → (z || hasApostrophe t) ≡ false → ((x : Bool) → hasApostrophe t ≡ false → apostrophesFit ends x (symbolsOf t) ≡ true)
+        → apostrophesFit ends before (cond (eqb (symbolOf b) 0) (symbolsOf t) (symbolOf b ∷ symbolsOf t)) ≡ true
+    by true q h next = never (sym h)
+    by false q h next = keep (eqb (symbolOf b) 0) q (λ x. next x h)
+
+fit-if : (ends any : Bool) (line : List ℕ) → hasApostrophe line ≡ any → fitIfAny ends any line ≡ apostrophesFit ends ends (symbolsOf line)
+unfolding fitIfAny
+fit-if ends true line e = refl
+fit-if ends false line e = sym (plain-fit ends ends line e)
+
+-- a line whose bytes are good ends here where its apostrophes fit
+end-fit : (ends : Bool) (w : List ℕ) (at e : ℕ) (any : Bool) → e ≡ at + lineLength (drop at w) → hasApostrophe (firstLine (drop at w)) ≡ any → {bytes : Bool} → bytes ≡ true
+    → {r : End} → r ≡ endIf (fitIfAny ends any (take (e - at) (drop at w))) e
+    → r ≡ endIf (bytes && apostrophesFit ends ends (symbolsOf (firstLine (drop at w)))) (at + lineLength (drop at w))
+end-fit ends w at e any q s b p =
+    p ∙ ap (λ (l : List ℕ). endIf (fitIfAny ends any l) e) (sym (first-line w at e q)) ∙ rw (fit-if ends any (firstLine (drop at w)) s, b, q)
+
+module _ (ends any : Bool) (line : List ℕ) where
+  pub fit-none : not any ≡ true → fitIfAny ends any line ≡ true
+  unfolding fitIfAny
+  fit-none o = rw o
+
+  pub fit-some : not any ≡ false → {r : Bool} → r ≡ apostrophesFit ends ends (symbolsOf line) → {z : Bool} → r ≡ z → fitIfAny ends any line ≡ z
+  unfolding fitIfAny
+  fit-some o p q = rw o (sym p ∙ q)
+
+pattern-bad : (line : List ℕ) → patternBytes lineLetter line ≡ false → goodPattern line ≡ false
+unfolding goodPattern
+pattern-bad line e = rw e
+
+exception-bad : (line : List ℕ) → exceptionBytes lineLetter line ≡ false → goodException line ≡ false
+unfolding goodException
+exception-bad line e = rw e
+
 -- what is left to show of a pattern line after some of its bytes: letters and digits seen, and how many symbols
 unfoldable pub patternRest : Bool → Bool → Bool → Bool → ℕ → List ℕ → Bool
 patternRest opening afterDigit letters digits n line =
-    patternForm opening afterDigit line && ((letters || anyOf small line) && ((digits || anyOf digit line) && leb (n + length (symbolsOf line)) patternLimit))
+    patternForm lineLetter opening afterDigit line && ((letters || anyOf small line) && ((digits || anyOf digit line) && leb (n + length (symbolsOf line)) patternLimit))
 
 suc-right : (n k : ℕ) → n + suc k ≡ n + 1 + k
 suc-right n k = omega arith
 
-pub pattern-start : (w : List ℕ) → goodPattern w ≡ patternRest true false false false 0 w
-unfolding goodPattern patternRest
+pattern-start : (w : List ℕ) → patternBytes lineLetter w ≡ patternRest true false false false 0 w
+unfolding patternBytes patternRest
 pattern-start w = let e : 0 + length (symbolsOf w) ≡ length (symbolsOf w) = omega arith in rw e
 
 module _ (w : List ℕ) (i : ℕ) (h : i < length w) (o a ls ds : Bool) (n : ℕ) where
-  pub pattern-letter : small (getD w i 0) ≡ true → patternRest o a ls ds n (firstLine (drop i w)) ≡ patternRest false false true ds (n + 1) (firstLine (drop (i + 1) w))
-  unfolding patternRest patternForm anyOf
+  pattern-letter : small (getD w i 0) ≡ true → patternRest o a ls ds n (firstLine (drop i w)) ≡ patternRest false false true ds (n + 1) (firstLine (drop (i + 1) w))
+  unfolding patternRest patternForm lineLetter anyOf
   pattern-letter e =
       rw (first-on w i h (small-not-feed (getD w i 0) e), symbols-keep (getD w i 0) (firstLine (drop (i + 1) w)) (small-symbol (getD w i 0) e), e, small-not-digit (getD w i 0) e, or-true ls, suc-right n)
 
   module _ (e : small (getD w i 0) ≡ false) where
-    pub pattern-digit : digit (getD w i 0) ≡ true → a ≡ false → patternRest o a ls ds n (firstLine (drop i w)) ≡ patternRest false true ls true n (firstLine (drop (i + 1) w))
-    unfolding patternRest patternForm anyOf
+    pattern-digit : digit (getD w i 0) ≡ true → a ≡ false → patternRest o a ls ds n (firstLine (drop i w)) ≡ patternRest false true ls true n (firstLine (drop (i + 1) w))
+    unfolding patternRest patternForm lineLetter anyOf
     pattern-digit d z =
-        rw (first-on w i h (digit-not-feed (getD w i 0) d), symbols-skip (getD w i 0) (firstLine (drop (i + 1) w)) (other-symbol (getD w i 0) e (digit-not-dot (getD w i 0) d)), e, d, z, or-true ds)
+        let q = digit-not-apostrophe (getD w i 0) d in
+        rw (
+          first-on w i h (digit-not-feed (getD w i 0) d),
+          symbols-skip (getD w i 0) (firstLine (drop (i + 1) w)) (other-symbol (getD w i 0) e (digit-not-dot (getD w i 0) d) q),
+          e,
+          ne-eqb (getD w i 0) apostrophe q,
+          d,
+          z,
+          or-true ds,
+        )
 
-    pub pattern-digits : digit (getD w i 0) ≡ true → a ≡ true → patternRest o a ls ds n (firstLine (drop i w)) ≡ false
-    unfolding patternRest patternForm
-    pattern-digits d z = rw (first-on w i h (digit-not-feed (getD w i 0) d), e, d, z)
+    pattern-digits : digit (getD w i 0) ≡ true → a ≡ true → patternRest o a ls ds n (firstLine (drop i w)) ≡ false
+    unfolding patternRest patternForm lineLetter
+    pattern-digits d z = rw (first-on w i h (digit-not-feed (getD w i 0) d), e, ne-eqb (getD w i 0) apostrophe (digit-not-apostrophe (getD w i 0) d), d, z)
 
     module _ (d : digit (getD w i 0) ≡ false) where
-      pub pattern-dot : getD w i 0 ≡ dot → (o || startsWith lineFeed (drop (i + 1) w)) ≡ true
+      pattern-dot : getD w i 0 ≡ dot → (o || startsWith lineFeed (drop (i + 1) w)) ≡ true
           → patternRest o a ls ds n (firstLine (drop i w)) ≡ patternRest false false ls ds (n + 1) (firstLine (drop (i + 1) w))
-      unfolding patternRest patternForm anyOf
+      unfolding patternRest patternForm lineLetter anyOf
       pattern-dot z s =
           rw (
             first-on w i h (λ f. omega (arith, f, z)),
             symbols-keep (getD w i 0) (firstLine (drop (i + 1) w)) (dot-symbol (getD w i 0) e z),
             e,
+            ne-eqb (getD w i 0) apostrophe (λ q. omega (arith, q, z)),
             d,
             eq-eqb (getD w i 0) dot z,
             starts-first lineFeed (drop (i + 1) w),
@@ -144,93 +288,217 @@ module _ (w : List ℕ) (i : ℕ) (h : i < length w) (o a ls ds : Bool) (n : ℕ
             suc-right n,
           )
 
-      pub pattern-no-dot : getD w i 0 ≡ dot → (o || startsWith lineFeed (drop (i + 1) w)) ≡ false → patternRest o a ls ds n (firstLine (drop i w)) ≡ false
-      unfolding patternRest patternForm
-      pattern-no-dot z s = rw (first-on w i h (λ f. omega (arith, f, z)), e, d, eq-eqb (getD w i 0) dot z, starts-first lineFeed (drop (i + 1) w), s)
+      pattern-no-dot : getD w i 0 ≡ dot → (o || startsWith lineFeed (drop (i + 1) w)) ≡ false → patternRest o a ls ds n (firstLine (drop i w)) ≡ false
+      unfolding patternRest patternForm lineLetter
+      pattern-no-dot z s =
+          rw (
+            first-on w i h (λ f. omega (arith, f, z)),
+            e,
+            ne-eqb (getD w i 0) apostrophe (λ q. omega (arith, q, z)),
+            d,
+            eq-eqb (getD w i 0) dot z,
+            starts-first lineFeed (drop (i + 1) w),
+            s,
+          )
 
-      module _ (z : getD w i 0 ≡ dot → ⊥) where
-        pub pattern-other : (getD w i 0 ≡ lineFeed → ⊥) → patternRest o a ls ds n (firstLine (drop i w)) ≡ false
-        unfolding patternRest patternForm
-        pattern-other f = rw (first-on w i h f, e, d, ne-eqb (getD w i 0) dot z, ne-eqb (getD w i 0) lineFeed f)
+      pattern-apostrophe : getD w i 0 ≡ apostrophe → patternRest o a ls ds n (firstLine (drop i w)) ≡ patternRest false false ls ds (n + 1) (firstLine (drop (i + 1) w))
+      unfolding patternRest patternForm lineLetter anyOf
+      pattern-apostrophe q =
+          rw (
+            first-on w i h (λ f. omega (arith, f, q)),
+            symbols-keep (getD w i 0) (firstLine (drop (i + 1) w)) (apostrophe-symbol (getD w i 0) e q),
+            e,
+            eq-eqb (getD w i 0) apostrophe q,
+            d,
+            suc-right n,
+          )
+
+      module _ (z : getD w i 0 ≡ dot → ⊥) (q : getD w i 0 ≡ apostrophe → ⊥) where
+        pattern-other : (getD w i 0 ≡ lineFeed → ⊥) → patternRest o a ls ds n (firstLine (drop i w)) ≡ false
+        unfolding patternRest patternForm lineLetter
+        pattern-other f = rw (first-on w i h f, e, ne-eqb (getD w i 0) apostrophe q, d, ne-eqb (getD w i 0) dot z, ne-eqb (getD w i 0) lineFeed f)
 
         -- the line feed ends the line: what was seen decides
         module _ (f : getD w i 0 ≡ lineFeed) where
           pattern-feed : patternRest o a ls ds n (firstLine (drop i w)) ≡ ((ls || false) && ((ds || false) && leb n patternLimit))
-          unfolding patternRest patternForm anyOf isNil symbolsOf
+          unfolding patternRest patternForm lineLetter anyOf isNil symbolsOf
           pattern-feed =
               rw (
                 first-feed w i h f,
-                symbols-skip (getD w i 0) [] (other-symbol (getD w i 0) e z),
+                symbols-skip (getD w i 0) [] (other-symbol (getD w i 0) e z q),
                 e,
+                ne-eqb (getD w i 0) apostrophe q,
                 d,
                 ne-eqb (getD w i 0) dot z,
                 eq-eqb (getD w i 0) lineFeed f,
                 add-zero n,
               )
 
-          pub pattern-letterless : not ls ≡ true → patternRest o a ls ds n (firstLine (drop i w)) ≡ false
+          pattern-letterless : not ls ≡ true → patternRest o a ls ds n (firstLine (drop i w)) ≡ false
           pattern-letterless l = pattern-feed ∙ rw (not-true ls l)
 
-          pub pattern-digitless : not ls ≡ false → not ds ≡ true → patternRest o a ls ds n (firstLine (drop i w)) ≡ false
+          pattern-digitless : not ls ≡ false → not ds ≡ true → patternRest o a ls ds n (firstLine (drop i w)) ≡ false
           pattern-digitless l g = pattern-feed ∙ rw (not-false ls l, not-true ds g)
 
-          pub pattern-long : not ls ≡ false → not ds ≡ false → patternLimit < n → patternRest o a ls ds n (firstLine (drop i w)) ≡ false
+          pattern-long : not ls ≡ false → not ds ≡ false → patternLimit < n → patternRest o a ls ds n (firstLine (drop i w)) ≡ false
           pattern-long l g k = pattern-feed ∙ rw (not-false ls l, not-false ds g, lt-leb n patternLimit k)
 
-          pub pattern-whole : not ls ≡ false → not ds ≡ false → n ≤ patternLimit → patternRest o a ls ds n (firstLine (drop i w)) ≡ true
+          pattern-whole : not ls ≡ false → not ds ≡ false → n ≤ patternLimit → patternRest o a ls ds n (firstLine (drop i w)) ≡ true
           pattern-whole l g k = pattern-feed ∙ rw (not-false ls l, not-false ds g, le-leb n patternLimit k)
 
-pub pattern-end : (w : List ℕ) (i : ℕ) (o a ls ds : Bool) (n : ℕ) → length w ≤ i → patternRest o a ls ds n (firstLine (drop i w)) ≡ false
-unfolding patternRest patternForm
+pattern-end : (w : List ℕ) (i : ℕ) (o a ls ds : Bool) (n : ℕ) → length w ≤ i → patternRest o a ls ds n (firstLine (drop i w)) ≡ false
+unfolding patternRest patternForm lineLetter
 pattern-end w i o a ls ds n h = rw (first-out w i h)
+
+-- What holds inside a pattern line: what was seen, how many symbols there were, and what is left to show.
+pub record Patterned (text : List ℕ) (at : ℕ) (o a ls ds seen : Bool) (n i : ℕ) : Type 0 where
+  pub begun : at ≤ i
+  pub counted : n ≤ i
+  pub ends : at + lineLength (drop at text) ≡ i + lineLength (drop i text)
+  pub same : patternBytes lineLetter (firstLine (drop at text)) ≡ patternRest o a ls ds n (firstLine (drop i text))
+  pub has : hasApostrophe (firstLine (drop at text)) ≡ seenOr seen (firstLine (drop i text))
+
+pub patterned-start : (text : List ℕ) (at : ℕ) → Patterned text at true false false false false 0 at
+patterned-start text at =
+    record {
+      begun = omega arith;
+      counted = omega arith;
+      ends = refl;
+      same = pattern-start (firstLine (drop at text));
+      has = seen-start (firstLine (drop at text));
+    }
+
+module _ (text : List ℕ) (at : ℕ) (o a ls ds seen : Bool) (n i : ℕ) (l : Patterned text at o a ls ds seen n i) where
+  bad : patternRest o a ls ds n (firstLine (drop i text)) ≡ false → goodPattern (firstLine (drop at text)) ≡ false
+  bad e = pattern-bad (firstLine (drop at text)) (l .same ∙ e)
+
+  pub patterned-out : length text ≤ i → goodPattern (firstLine (drop at text)) ≡ false
+  patterned-out h = bad (pattern-end text i o a ls ds n h)
+
+  module _ (h : i < length text) where
+    -- one byte more that is neither an apostrophe nor the line feed
+    on : {o' a' ls' ds' : Bool} (n' : ℕ) → (getD text i 0 ≡ lineFeed → ⊥) → (getD text i 0 ≡ apostrophe → ⊥) → n' ≤ i + 1
+        → patternRest o a ls ds n (firstLine (drop i text)) ≡ patternRest o' a' ls' ds' n' (firstLine (drop (i + 1) text)) → Patterned text at o' a' ls' ds' seen n' (i + 1)
+    on n' f q k e =
+        record {
+          begun = omega (arith, l .begun);
+          counted = k;
+          ends = end-on at text i (l .ends) h f;
+          same = l .same ∙ e;
+          has = l .has ∙ seen-other text i h seen f q;
+        }
+
+    pub patterned-letter : small (getD text i 0) ≡ true → Patterned text at false false true ds seen (n + 1) (i + 1)
+    patterned-letter e =
+        on (n + 1) (small-not-feed (getD text i 0) e) (small-not-apostrophe (getD text i 0) e) (omega (arith, l .counted)) (pattern-letter text i h o a ls ds n e)
+
+    module _ (e : small (getD text i 0) ≡ false) where
+      pub patterned-digit : digit (getD text i 0) ≡ true → a ≡ false → Patterned text at false true ls true seen n (i + 1)
+      patterned-digit d z =
+          on n (digit-not-feed (getD text i 0) d) (digit-not-apostrophe (getD text i 0) d) (omega (arith, l .counted)) (pattern-digit text i h o a ls ds n e d z)
+
+      pub patterned-digits : digit (getD text i 0) ≡ true → a ≡ true → goodPattern (firstLine (drop at text)) ≡ false
+      patterned-digits d z = bad (pattern-digits text i h o a ls ds n e d z)
+
+      module _ (d : digit (getD text i 0) ≡ false) where
+        pub patterned-dot : getD text i 0 ≡ dot → (o || startsWith lineFeed (drop (i + 1) text)) ≡ true → Patterned text at false false ls ds seen (n + 1) (i + 1)
+        patterned-dot z s =
+            on (n + 1) (λ f. omega (arith, f, z)) (λ q. omega (arith, q, z)) (omega (arith, l .counted)) (pattern-dot text i h o a ls ds n e d z s)
+
+        pub patterned-no-dot : getD text i 0 ≡ dot → (o || startsWith lineFeed (drop (i + 1) text)) ≡ false → goodPattern (firstLine (drop at text)) ≡ false
+        patterned-no-dot z s = bad (pattern-no-dot text i h o a ls ds n e d z s)
+
+        pub patterned-apostrophe : getD text i 0 ≡ apostrophe → Patterned text at false false ls ds true (n + 1) (i + 1)
+        patterned-apostrophe q =
+            record {
+              begun = omega (arith, l .begun);
+              counted = omega (arith, l .counted);
+              ends = end-on at text i (l .ends) h (λ f. omega (arith, f, q));
+              same = l .same ∙ pattern-apostrophe text i h o a ls ds n e d q;
+              has = l .has ∙ seen-apostrophe text i h seen q;
+            }
+
+        module _ (z : getD text i 0 ≡ dot → ⊥) (q : getD text i 0 ≡ apostrophe → ⊥) where
+          pub patterned-other : (getD text i 0 ≡ lineFeed → ⊥) → goodPattern (firstLine (drop at text)) ≡ false
+          patterned-other f = bad (pattern-other text i h o a ls ds n e d z q f)
+
+          module _ (f : getD text i 0 ≡ lineFeed) where
+            pub patterned-letterless : not ls ≡ true → goodPattern (firstLine (drop at text)) ≡ false
+            patterned-letterless g = bad (pattern-letterless text i h o a ls ds n e d z q f g)
+
+            pub patterned-digitless : not ls ≡ false → not ds ≡ true → goodPattern (firstLine (drop at text)) ≡ false
+            patterned-digitless g k = bad (pattern-digitless text i h o a ls ds n e d z q f g k)
+
+            pub patterned-long : not ls ≡ false → not ds ≡ false → patternLimit < n → goodPattern (firstLine (drop at text)) ≡ false
+            patterned-long g k m = bad (pattern-long text i h o a ls ds n e d z q f g k m)
+
+            pub patterned-whole : not ls ≡ false → not ds ≡ false → n ≤ patternLimit → {r : End} → r ≡ endIf (fitIfAny true seen (take (i + 1 - at) (drop at text))) (i + 1)
+                → r ≡ endIf (goodPattern (firstLine (drop at text))) (at + lineLength (drop at text))
+            unfolding goodPattern
+            patterned-whole g k m p =
+                end-fit true text at (i + 1) seen (end-here at text i (l .ends) h f) (l .has ∙ seen-feed text i h seen f)
+                (l .same ∙ pattern-whole text i h o a ls ds n e d z q f g k m) p
 
 -- the same for an exception line
 unfoldable pub exceptionRest : Bool → ℕ → List ℕ → Bool
-exceptionRest afterLetter n line = exceptionForm afterLetter line && leb (n + length (symbolsOf line)) wordLimit
+exceptionRest afterLetter n line = exceptionForm lineLetter afterLetter line && leb (n + length (symbolsOf line)) wordLimit
 
-exception-start : (w : List ℕ) → goodException w ≡ exceptionRest false 0 w
-unfolding goodException exceptionRest
+exception-start : (w : List ℕ) → exceptionBytes lineLetter w ≡ exceptionRest false 0 w
+unfolding exceptionBytes exceptionRest
 exception-start w = let e : 0 + length (symbolsOf w) ≡ length (symbolsOf w) = omega arith in rw e
 
 module _ (w : List ℕ) (i : ℕ) (h : i < length w) (a : Bool) (n : ℕ) where
   exception-letter : small (getD w i 0) ≡ true → exceptionRest a n (firstLine (drop i w)) ≡ exceptionRest true (n + 1) (firstLine (drop (i + 1) w))
-  unfolding exceptionRest exceptionForm
+  unfolding exceptionRest exceptionForm lineLetter
   exception-letter e =
       rw (first-on w i h (small-not-feed (getD w i 0) e), symbols-keep (getD w i 0) (firstLine (drop (i + 1) w)) (small-symbol (getD w i 0) e), e, suc-right n)
 
-  module _ (e : small (getD w i 0) ≡ false) where
+  exception-apostrophe : small (getD w i 0) ≡ false → getD w i 0 ≡ apostrophe → exceptionRest a n (firstLine (drop i w)) ≡ exceptionRest true (n + 1) (firstLine (drop (i + 1) w))
+  unfolding exceptionRest exceptionForm lineLetter
+  exception-apostrophe e q =
+      rw (
+        first-on w i h (λ f. omega (arith, f, q)),
+        symbols-keep (getD w i 0) (firstLine (drop (i + 1) w)) (apostrophe-symbol (getD w i 0) e q),
+        e,
+        eq-eqb (getD w i 0) apostrophe q,
+        suc-right n,
+      )
+
+  module _ (e : small (getD w i 0) ≡ false) (q : getD w i 0 ≡ apostrophe → ⊥) where
     exception-lone : a ≡ false → exceptionRest a n (firstLine (drop i w)) ≡ false
-    unfolding exceptionRest exceptionForm firstLine
+    unfolding exceptionRest exceptionForm lineLetter firstLine
     exception-lone z = rw (cons-at w i h) (go (eqb (getD w i 0) lineFeed))
       where
         go : (f : Bool) → exceptionRest a n (cond f (getD w i 0 ∷ []) (getD w i 0 ∷ firstLine (drop (i + 1) w))) ≡ false
-        go true = rw (e, z)
-        go false = rw (e, z)
+        go true = rw (e, ne-eqb (getD w i 0) apostrophe q, z)
+        go false = rw (e, ne-eqb (getD w i 0) apostrophe q, z)
 
     module _ (z : a ≡ true) where
       exception-hyphen : getD w i 0 ≡ hyphen → exceptionRest a n (firstLine (drop i w)) ≡ exceptionRest false n (firstLine (drop (i + 1) w))
-      unfolding exceptionRest exceptionForm
+      unfolding exceptionRest exceptionForm lineLetter
       exception-hyphen y =
           rw (
             first-on w i h (λ f. omega (arith, f, y)),
-            symbols-skip (getD w i 0) (firstLine (drop (i + 1) w)) (other-symbol (getD w i 0) e (λ d. omega (arith, d, y))),
+            symbols-skip (getD w i 0) (firstLine (drop (i + 1) w)) (other-symbol (getD w i 0) e (λ d. omega (arith, d, y)) q),
             e,
+            ne-eqb (getD w i 0) apostrophe q,
             z,
             eq-eqb (getD w i 0) hyphen y,
           )
 
       module _ (y : getD w i 0 ≡ hyphen → ⊥) where
         exception-other : (getD w i 0 ≡ lineFeed → ⊥) → exceptionRest a n (firstLine (drop i w)) ≡ false
-        unfolding exceptionRest exceptionForm
-        exception-other f = rw (first-on w i h f, e, z, ne-eqb (getD w i 0) hyphen y, ne-eqb (getD w i 0) lineFeed f)
+        unfolding exceptionRest exceptionForm lineLetter
+        exception-other f = rw (first-on w i h f, e, ne-eqb (getD w i 0) apostrophe q, z, ne-eqb (getD w i 0) hyphen y, ne-eqb (getD w i 0) lineFeed f)
 
         exception-feed : getD w i 0 ≡ lineFeed → exceptionRest a n (firstLine (drop i w)) ≡ leb n wordLimit
-        unfolding exceptionRest exceptionForm isNil symbolsOf
+        unfolding exceptionRest exceptionForm lineLetter isNil symbolsOf
         exception-feed f =
             rw (
               first-feed w i h f,
-              symbols-skip (getD w i 0) [] (other-symbol (getD w i 0) e (λ d. omega (arith, d, f))),
+              symbols-skip (getD w i 0) [] (other-symbol (getD w i 0) e (λ d. omega (arith, d, f)) q),
               e,
+              ne-eqb (getD w i 0) apostrophe q,
               z,
               ne-eqb (getD w i 0) hyphen y,
               eq-eqb (getD w i 0) lineFeed f,
@@ -244,63 +512,92 @@ module _ (w : List ℕ) (i : ℕ) (h : i < length w) (a : Bool) (n : ℕ) where
         exception-whole f k = exception-feed f ∙ rw (le-leb n wordLimit k)
 
 exception-end : (w : List ℕ) (i : ℕ) (a : Bool) (n : ℕ) → length w ≤ i → exceptionRest a n (firstLine (drop i w)) ≡ false
-unfolding exceptionRest exceptionForm
+unfolding exceptionRest exceptionForm lineLetter
 exception-end w i a n h = rw (first-out w i h)
 
--- What holds inside an exception line: where the letters in hand begin, how many hyphens there were, and what is left to show.
-pub record Lettered (text : List ℕ) (at run hyphens i : ℕ) : Type 0 where
+-- What holds inside an exception line: where the letters in hand begin, how many hyphens there were, whether an apostrophe was seen, and
+-- what is left to show.
+pub record Lettered (text : List ℕ) (at run hyphens : ℕ) (seen : Bool) (i : ℕ) : Type 0 where
   pub begun : run ≤ i
   pub counted : at + hyphens ≤ i
   pub ends : at + lineLength (drop at text) ≡ i + lineLength (drop i text)
-  pub same : goodException (firstLine (drop at text)) ≡ exceptionRest (ltb run i) (i - at - hyphens) (firstLine (drop i text))
+  pub same : exceptionBytes lineLetter (firstLine (drop at text)) ≡ exceptionRest (ltb run i) (i - at - hyphens) (firstLine (drop i text))
+  pub has : hasApostrophe (firstLine (drop at text)) ≡ seenOr seen (firstLine (drop i text))
 
-pub lettered-start : (text : List ℕ) (at : ℕ) → Lettered text at at 0 at
+pub lettered-start : (text : List ℕ) (at : ℕ) → Lettered text at at 0 false at
 lettered-start text at =
     let n : at - at - 0 ≡ 0 = omega arith in
-    record { begun = omega arith; counted = omega arith; ends = refl; same = exception-start (firstLine (drop at text)) ∙ rw (n, le-ltb at at (omega arith)) }
+    record {
+      begun = omega arith;
+      counted = omega arith;
+      ends = refl;
+      same = exception-start (firstLine (drop at text)) ∙ rw (n, le-ltb at at (omega arith));
+      has = seen-start (firstLine (drop at text));
+    }
 
-module _ (text : List ℕ) (at run hyphens i : ℕ) (l : Lettered text at run hyphens i) where
+module _ (text : List ℕ) (at run hyphens : ℕ) (seen : Bool) (i : ℕ) (l : Lettered text at run hyphens seen i) where
   pub lettered-out : length text ≤ i → goodException (firstLine (drop at text)) ≡ false
-  lettered-out h = l .same ∙ exception-end text i (ltb run i) (i - at - hyphens) h
+  lettered-out h = exception-bad (firstLine (drop at text)) (l .same ∙ exception-end text i (ltb run i) (i - at - hyphens) h)
 
   module _ (h : i < length text) where
-    pub lettered-on : small (getD text i 0) ≡ true → Lettered text at run hyphens (i + 1)
+    further : i + 1 - at - hyphens ≡ i - at - hyphens + 1
+    further = omega (arith, l .counted)
+
+    pub lettered-on : small (getD text i 0) ≡ true → Lettered text at run hyphens seen (i + 1)
     lettered-on e =
-        let n : i + 1 - at - hyphens ≡ i - at - hyphens + 1 = omega (arith, l .counted) in
         record {
           begun = omega (arith, l .begun);
           counted = omega (arith, l .counted);
           ends = end-on at text i (l .ends) h (small-not-feed (getD text i 0) e);
-          same = l .same ∙ exception-letter text i h (ltb run i) (i - at - hyphens) e ∙ rw (n, lt-ltb run (i + 1) (omega (arith, l .begun)));
+          same = l .same ∙ exception-letter text i h (ltb run i) (i - at - hyphens) e ∙ rw (further, lt-ltb run (i + 1) (omega (arith, l .begun)));
+          has = l .has ∙ seen-other text i h seen (small-not-feed (getD text i 0) e) (small-not-apostrophe (getD text i 0) e);
         }
 
     module _ (e : small (getD text i 0) ≡ false) where
-      pub lettered-lone : i ≡ run → goodException (firstLine (drop at text)) ≡ false
-      lettered-lone z = l .same ∙ exception-lone text i h (ltb run i) (i - at - hyphens) e (le-ltb run i (omega arith))
+      pub lettered-apostrophe : getD text i 0 ≡ apostrophe → Lettered text at run hyphens true (i + 1)
+      lettered-apostrophe q =
+          record {
+            begun = omega (arith, l .begun);
+            counted = omega (arith, l .counted);
+            ends = end-on at text i (l .ends) h (λ f. omega (arith, f, q));
+            same = l .same ∙ exception-apostrophe text i h (ltb run i) (i - at - hyphens) e q ∙ rw (further, lt-ltb run (i + 1) (omega (arith, l .begun)));
+            has = l .has ∙ seen-apostrophe text i h seen q;
+          }
 
-      module _ (z : i ≡ run → ⊥) where
-        after : ltb run i ≡ true
-        after = lt-ltb run i (omega (arith, l .begun))
+      module _ (q : getD text i 0 ≡ apostrophe → ⊥) where
+        pub lettered-lone : i ≡ run → goodException (firstLine (drop at text)) ≡ false
+        lettered-lone z =
+            exception-bad (firstLine (drop at text)) (l .same ∙ exception-lone text i h (ltb run i) (i - at - hyphens) e q (le-ltb run i (omega arith)))
 
-        pub lettered-hyphen : getD text i 0 ≡ hyphen → Lettered text at (i + 1) (hyphens + 1) (i + 1)
-        lettered-hyphen y =
-            let n : i + 1 - at - (hyphens + 1) ≡ i - at - hyphens = omega (arith, l .counted) in
-            record {
-              begun = omega arith;
-              counted = omega (arith, l .counted);
-              ends = end-on at text i (l .ends) h (λ f. omega (arith, f, y));
-              same = l .same ∙ exception-hyphen text i h (ltb run i) (i - at - hyphens) e after y ∙ rw (n, le-ltb (i + 1) (i + 1) (omega arith));
-            }
+        module _ (z : i ≡ run → ⊥) where
+          after : ltb run i ≡ true
+          after = lt-ltb run i (omega (arith, l .begun))
 
-        module _ (y : getD text i 0 ≡ hyphen → ⊥) where
-          pub lettered-other : (getD text i 0 ≡ lineFeed → ⊥) → goodException (firstLine (drop at text)) ≡ false
-          lettered-other f = l .same ∙ exception-other text i h (ltb run i) (i - at - hyphens) e after y f
+          pub lettered-hyphen : getD text i 0 ≡ hyphen → Lettered text at (i + 1) (hyphens + 1) seen (i + 1)
+          lettered-hyphen y =
+              let n : i + 1 - at - (hyphens + 1) ≡ i - at - hyphens = omega (arith, l .counted) in
+              record {
+                begun = omega arith;
+                counted = omega (arith, l .counted);
+                ends = end-on at text i (l .ends) h (λ f. omega (arith, f, y));
+                same = l .same ∙ exception-hyphen text i h (ltb run i) (i - at - hyphens) e q after y ∙ rw (n, le-ltb (i + 1) (i + 1) (omega arith));
+                has = l .has ∙ seen-other text i h seen (λ f. omega (arith, f, y)) q;
+              }
 
-          pub lettered-long : getD text i 0 ≡ lineFeed → wordLimit < i - at - hyphens → goodException (firstLine (drop at text)) ≡ false
-          lettered-long f k = l .same ∙ exception-long text i h (ltb run i) (i - at - hyphens) e after y f k
+          module _ (y : getD text i 0 ≡ hyphen → ⊥) where
+            pub lettered-other : (getD text i 0 ≡ lineFeed → ⊥) → goodException (firstLine (drop at text)) ≡ false
+            lettered-other f = exception-bad (firstLine (drop at text)) (l .same ∙ exception-other text i h (ltb run i) (i - at - hyphens) e q after y f)
 
-          pub lettered-whole : getD text i 0 ≡ lineFeed → i - at - hyphens ≤ wordLimit → goodException (firstLine (drop at text)) ≡ true
-          lettered-whole f k = l .same ∙ exception-whole text i h (ltb run i) (i - at - hyphens) e after y f k
+            module _ (f : getD text i 0 ≡ lineFeed) where
+              pub lettered-long : wordLimit < i - at - hyphens → goodException (firstLine (drop at text)) ≡ false
+              lettered-long k = exception-bad (firstLine (drop at text)) (l .same ∙ exception-long text i h (ltb run i) (i - at - hyphens) e q after y f k)
+
+              pub lettered-whole : i - at - hyphens ≤ wordLimit → {r : End} → r ≡ endIf (fitIfAny false seen (take (i + 1 - at) (drop at text))) (i + 1)
+                  → r ≡ endIf (goodException (firstLine (drop at text))) (at + lineLength (drop at text))
+              unfolding goodException
+              lettered-whole k p =
+                  end-fit false text at (i + 1) seen (end-here at text i (l .ends) h f) (l .has ∙ seen-feed text i h seen f)
+                  (l .same ∙ exception-whole text i h (ltb run i) (i - at - hyphens) e q after y f k) p
 
 -- the order of two lines, at the symbols that the code stands at
 unfoldable pub linesBefore : List ℕ → ℕ → List ℕ → ℕ → Bool

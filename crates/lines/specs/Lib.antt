@@ -1,3 +1,4 @@
+pub mod Apostrophes
 pub mod Lines
 pub mod Order
 pub mod Ends

@@ -4,6 +4,7 @@ ghost use mathlib.Core.Bool.{_||_};
 ghost use Prim.Native.Nat.{_+_, _≤_};
 ghost use lib.ListN.{length, drop};
 ghost use Rattle.words.specs.Symbols.{symbolsOf, lineFeed};
+ghost use Rattle.lines.specs.Apostrophes.{apostrophesFit, fitIfAny};
 ghost use Rattle.lines.specs.Lines.{lineLength, firstLine, startsWith, goodPattern, goodException};
 ghost use Rattle.lines.specs.Order.{before};
 ghost use Rattle.lines.specs.Ends.{endIf};
@@ -42,6 +43,54 @@ fn dot_fits(opening: bool, text: &[u8], i: usize) -> bool
     text[i] == words::LINE_FEED
 }
 
+// Stands on each side of an apostrophe of this line one of the 26 letters or, with `ends`, nothing? The line is read without digits and
+// hyphens. `before`: so it is on the left of the next symbol; `waits`: the symbol before is an apostrophe, whose right side is open.
+fn apostrophes_fit(ends: bool, line: &[u8]) -> bool
+    ensures { λ r. ⌜ r ≡ apostrophesFit ends ends (symbolsOf (now (line .entry))) ⌝ }
+{
+    let mut before = ends;
+    let mut waits = false;
+    let mut i = 0;
+    while i < line.len() {
+        let s = words::symbol_of(line[i]);
+        i += 1;
+        if s != 0 {
+            if s <= base::LETTER_LIMIT {
+                before = true;
+                waits = false;
+            } else {
+                if waits {
+                    return false;
+                }
+                if s == base::APOSTROPHE_SYMBOL {
+                    if !before {
+                        return false;
+                    }
+                    waits = true;
+                }
+                before = false;
+            }
+        }
+    }
+    if waits {
+        return ends;
+    }
+    true
+}
+
+// Where a line ends whose bytes are good, if its apostrophes stand where they may. Most lines have none, and are not read again.
+fn end_if_fit(ends: bool, apostrophes: bool, line: &[u8], end: usize) -> End
+    ensures { λ r. ⌜ r ≡ endIf (fitIfAny ends apostrophes (now (line .entry))) end ⌝ }
+{
+    if !apostrophes {
+        return End::At(end);
+    }
+    if apostrophes_fit(ends, line) {
+        return End::At(end);
+    }
+    End::Bad
+}
+
 // The line that begins at a place, judged as a pattern line by itself: its form and its end are found in one pass.
 pub fn pattern_end(text: &[u8], at: usize) -> End
     ensures { λ r. ⌜ r ≡ endIf (goodPattern (firstLine (drop at (now (text .entry))))) (at + lineLength (drop at (now (text .entry)))) ⌝ }
@@ -50,6 +99,7 @@ pub fn pattern_end(text: &[u8], at: usize) -> End
     let mut after_digit = false;
     let mut letters = false;
     let mut digits = false;
+    let mut apostrophes = false;
     let mut count: usize = 0;
     let mut i = at;
     while i < text.len() {
@@ -74,6 +124,11 @@ pub fn pattern_end(text: &[u8], at: usize) -> End
             count += 1;
             after_digit = false;
             opening = false;
+        } else if b == words::APOSTROPHE {
+            apostrophes = true; // none of the 26
+            count += 1; // but a symbol
+            after_digit = false;
+            opening = false;
         } else {
             if b != words::LINE_FEED {
                 return End::Bad;
@@ -87,23 +142,27 @@ pub fn pattern_end(text: &[u8], at: usize) -> End
             if base::PATTERN_LIMIT < count {
                 return End::Bad;
             }
-            return End::At(i);
+            return end_if_fit(true, apostrophes, &text[at..i], i);
         }
     }
     End::Bad
 }
 
 // The same for an exception line. Most bytes are letters, and nothing is kept of them: `run` is where the letters in hand begin, and a
-// line's letters are its bytes without the hyphens.
+// line's letters, apostrophes among them, are its bytes without the hyphens.
 pub fn exception_end(text: &[u8], at: usize) -> End
     ensures { λ r. ⌜ r ≡ endIf (goodException (firstLine (drop at (now (text .entry))))) (at + lineLength (drop at (now (text .entry)))) ⌝ }
 {
     let mut run = at;
     let mut hyphens: usize = 0;
+    let mut apostrophes = false;
     let mut i = at;
     while i < text.len() {
         let b = text[i];
         if words::is_small(b) {
+            i += 1;
+        } else if b == words::APOSTROPHE {
+            apostrophes = true; // as a letter, it may stand beside a hyphen
             i += 1;
         } else {
             if i == run {
@@ -121,7 +180,7 @@ pub fn exception_end(text: &[u8], at: usize) -> End
                 if base::WORD_LIMIT < letters {
                     return End::Bad;
                 }
-                return End::At(i);
+                return end_if_fit(false, apostrophes, &text[at..i], i);
             }
         }
     }

@@ -9,8 +9,8 @@ use borrow.Author.Tests.{eq-eqb, ne-eqb, eqb-true, eqb-false, le-leb, lt-leb, no
 use lib.Bits.{bitOr, or-step, or-block, or-zero-r}
 use lib.Dec.{eqb, leb}
 use lib.Pow.{split}
-use Rattle.words.specs.Symbols.{small, lower, symbolOf, dot}
-use Rattle.words.proofs.Laws.{from-range, small-low, small-high, lower-below, lower-capital, lower-above, symbol-small, symbol-dot, symbol-none}
+use Rattle.words.specs.Symbols.{small, lower, symbolOf, dot, apostrophe}
+use Rattle.words.proofs.Laws.{from-range, small-low, small-high, lower-below, lower-capital, lower-above, symbol-small, symbol-dot, symbol-apostrophe, symbol-none}
 
 -- a number that a test chose
 pub chosen : (t : Bool) (x y : ℕ) → t ≡ true → x ≡ cond t x y
@@ -90,12 +90,14 @@ both-met a b c d h k {f} {g} {x} {y} i j p q = go (eqb (bitOr a 32) c) refl (eqb
 
 -- no other symbol is a letter's
 pub one-letter : (x b : ℕ) → small b ≡ true → symbolOf x ≡ symbolOf b → x ≡ b
-one-letter x b s e = go (small x) refl (eqb x dot) refl
+one-letter x b s e = go (small x) refl (eqb x dot) refl (eqb x apostrophe) refl
   where
-    go : (z : Bool) → small x ≡ z → (d : Bool) → eqb x dot ≡ d → x ≡ b
-    go true p d q = omega (arith, e, small-low x p, small-low b s, symbol-small x p, symbol-small b s)
-    go false p true q = absurd (omega (arith, e, symbol-dot x p (eqb-true x dot q), small-high b s, symbol-small b s))
-    go false p false q = absurd (omega (arith, e, symbol-none x p (eqb-false x dot q), small-low b s, symbol-small b s))
+    go : (z : Bool) → small x ≡ z → (d : Bool) → eqb x dot ≡ d → (a : Bool) → eqb x apostrophe ≡ a → x ≡ b
+    go true p d q a r = omega (arith, e, small-low x p, small-low b s, symbol-small x p, symbol-small b s)
+    go false p true q a r = absurd (omega (arith, e, symbol-dot x p (eqb-true x dot q), small-high b s, symbol-small b s))
+    go false p false q true r =
+        absurd (omega (arith, e, symbol-apostrophe x p (eqb-false x dot q) (eqb-true x apostrophe r), small-high b s, symbol-small b s))
+    go false p false q false r = absurd (omega (arith, e, symbol-none x p (eqb-false x dot q) (eqb-false x apostrophe r), small-low b s, symbol-small b s))
 
 -- a byte that is no letter and no other symbol stands for none
 pub no-symbol : (b : ℕ) → small b ≡ false → (not (small b) && not (eqb (symbolOf b) 0)) ≡ false → symbolOf b ≡ 0

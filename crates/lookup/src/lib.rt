@@ -63,7 +63,7 @@ fn parts(a: u8, b: u8) -> bool
     left <= b'z' as u32
 }
 
-// Is this a symbol that is no letter? No good line has one.
+// Is this a symbol that is no letter? In a good line it is an apostrophe.
 fn is_other(b: u8) -> bool
     ensures { λ r. ⌜ r ≡ (not (small b) && not (eqb (symbolOf b) 0)) ⌝ }
 {

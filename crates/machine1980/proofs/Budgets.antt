@@ -9,7 +9,7 @@ use lib.Dec.{leb}
 use lib.ListN.{length}
 use Rattle.base.specs.Limits.{wordLimit1980, shortWord1980}
 use Rattle.base.specs.declared.Check.the-variants.{Fine}
-use Rattle.words.specs.Words.{judgeWord}
+use Rattle.words.specs.Words.{judgeLetters}
 use Rattle.sheet1980.specs.Sheet.{u, mem, sheetOf, Sheet}
 use Rattle.suffix1980.specs.Suffixes.{infinity, sufbegin, Suffixed, phase2}
 use Rattle.suffix1980.specs.Suffixes as suffix
@@ -85,7 +85,7 @@ run-same budget more n sheet s h b =
     ∙ suffix-same budget more n (phase2 budget n sheet) h b ends
 
 -- a judged word
-module _ (word : List ℕ) (judged : judgeWord wordLimit1980 word ≡ Fine) where
+module _ (word : List ℕ) (judged : judgeLetters wordLimit1980 word ≡ Fine) where
   -- Under any budget from 32 n + 8 on a word is answered, and executes at most so many instructions.
   pub within : (budget : ℕ) → mostExecuted (length word) ≤ budget → Within (mostExecuted (length word)) (machine budget word)
   unfolding machine

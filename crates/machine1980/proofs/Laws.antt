@@ -11,7 +11,7 @@ use Rattle.base.specs.Limits.{roomSize1980, shortWord1980, wordLimit1980}
 use Rattle.base.specs.Grounds.{Finds}
 use Rattle.base.specs.declared.Check.the-variants.{Refused}
 use Rattle.base.specs.declared.Ground.the-variants.{RoomShort}
-use Rattle.words.specs.Words.{judgeWord}
+use Rattle.words.specs.Words.{judgeLetters}
 use Rattle.rooms.specs.Rooms.{isShort, sheetFrom, sheet, written, nonzero, bit}
 use Rattle.rooms.proofs.Sheets.{sheet-same, written-take}
 use Rattle.sheet1980.specs.Sheet.{u, mem, sheetOf, Sheet}
@@ -41,7 +41,7 @@ pub judge-short : (word : List ℕ) (size : ℕ) {short : Bool} → short ≡ is
 unfolding judge1980
 judge-short word size p q = rw (← p, q)
 
-pub judge-on : (word : List ℕ) (size : ℕ) {short : Bool} → short ≡ isShort roomSize1980 size → short ≡ false → judgeWord wordLimit1980 word ≡ judge1980 word size
+pub judge-on : (word : List ℕ) (size : ℕ) {short : Bool} → short ≡ isShort roomSize1980 size → short ≡ false → judgeLetters wordLimit1980 word ≡ judge1980 word size
 unfolding judge1980
 judge-on word size p q = rw (← p, q)
 

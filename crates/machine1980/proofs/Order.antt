@@ -12,8 +12,8 @@ use Rattle.base.specs.declared.Ground.{Ground}
 use Rattle.base.specs.declared.Ground.the-variants.{RoomShort}
 use Rattle.base.proofs.Grounds.{Ordered, ordered-first, ordered-if, said-found, said-refused, both-fine, not-refused, judged-by}
 use Rattle.rooms.specs.Rooms.{isShort}
-use Rattle.words.specs.Words.{judgeWord}
-use Rattle.words.proofs.Order.{word-ordered}
+use Rattle.words.specs.Words.{judgeLetters}
+use Rattle.words.proofs.Order.{letters-ordered}
 use Rattle.machine1980.specs.Run.{machine}
 use Rattle.machine1980.specs.Calls.{grounds1980, judge1980, said1980, valuesOf, answer1980, roomLeft, room1980, Reprints}
 use Rattle.machine1980.specs.Post.{Answered}
@@ -22,18 +22,18 @@ use Rattle.machine1980.specs.declared.Answer1980.the-variants as answers
 
 pub ordered-1980 : (word : List ℕ) (size : ℕ) → Ordered (judge1980 word size) (grounds1980 word size)
 unfolding judge1980 grounds1980
-ordered-1980 word size = ordered-first (ordered-if (isShort roomSize1980 size) RoomShort) (word-ordered wordLimit1980 word)
+ordered-1980 word size = ordered-first (ordered-if (isShort roomSize1980 size) RoomShort) (letters-ordered wordLimit1980 word)
 
 -- what a judgement that is fine says of the word and of the room
-pub judged-fine : (word : List ℕ) (size : ℕ) → judge1980 word size ≡ Fine → judgeWord wordLimit1980 word ≡ Fine
+pub judged-fine : (word : List ℕ) (size : ℕ) → judge1980 word size ≡ Fine → judgeLetters wordLimit1980 word ≡ Fine
 unfolding judge1980
-judged-fine word size e = both-fine (refuseIf (isShort roomSize1980 size) RoomShort) (judgeWord wordLimit1980 word) e .1
+judged-fine word size e = both-fine (refuseIf (isShort roomSize1980 size) RoomShort) (judgeLetters wordLimit1980 word) e .1
 
 pub sizes : (word : List ℕ) (size : ℕ) {judged : Check} → says judged ≡ firstOf (Finds []) (grounds1980 word size) → judged ≡ Fine
-    → (judgeWord wordLimit1980 word ≡ Fine) × (roomSize1980 ≤ size)
+    → (judgeLetters wordLimit1980 word ≡ Fine) × (roomSize1980 ≤ size)
 unfolding judge1980
 sizes word size p q =
-    let a = both-fine (refuseIf (isShort roomSize1980 size) RoomShort) (judgeWord wordLimit1980 word) (sym (judged-by (ordered-1980 word size) p) ∙ q) in
+    let a = both-fine (refuseIf (isShort roomSize1980 size) RoomShort) (judgeLetters wordLimit1980 word) (sym (judged-by (ordered-1980 word size) p) ∙ q) in
     (a .1, ltb-false size roomSize1980 (not-refused (isShort roomSize1980 size) RoomShort (a .0)))
 
 -- the promise by its judgement: a refusal as it is judged, else what is found

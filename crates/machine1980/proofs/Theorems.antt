@@ -13,8 +13,8 @@ use Rattle.base.specs.declared.Check.{Check}
 use Rattle.base.specs.declared.Check.the-variants.{Fine, Refused}
 use Rattle.base.proofs.Grounds.{Ordered, said-found, said-refused, no-refusal}
 use Rattle.base.proofs.Lists.{both, clash}
-use Rattle.words.specs.Words.{judgeWord}
-use Rattle.words.proofs.Laws.{word-fits}
+use Rattle.words.specs.Words.{judgeLetters}
+use Rattle.words.proofs.Laws.{letters-fit}
 use Rattle.sheet1980.specs.Sheet.{u, sheetOf}
 use Rattle.suffix1980.specs.Suffixes.{infinity, sufbegin, rowsFetched, allInstructions}
 use Rattle.suffix1980.proofs.Masks.{no-mask-fetched}
@@ -35,15 +35,15 @@ ran-not most (Marked finale marks executed) w e = clash cc
 executed-few : (most : ℕ) (o : Outcome) → Within most o → {finale executed : ℕ} {marks : List ℕ} → o ≡ Marked finale marks executed → executed ≤ most
 executed-few most o w {finale} {executed} {marks} e = subst (λ (x : Outcome). Within most x) e w
 
-module _ (word : List ℕ) (judged : judgeWord wordLimit1980 word ≡ Fine) where
+module _ (word : List ℕ) (judged : judgeLetters wordLimit1980 word ≡ Fine) where
   -- "show that no word runs out": the budget of 20,000 is far above what the longest word may take, 2,024.
   pub no-word-runs-out : machine budget1980 word ≡ RanOut → ⊥
-  no-word-runs-out e = ran-not (mostExecuted (length word)) (machine budget1980 word) (within word judged budget1980 (omega (arith, word-fits wordLimit1980 word judged))) e
+  no-word-runs-out e = ran-not (mostExecuted (length word)) (machine budget1980 word) (within word judged budget1980 (omega (arith, letters-fit wordLimit1980 word judged))) e
 
   pub few-executed : {finale executed : ℕ} {marks : List ℕ} → machine budget1980 word ≡ Marked finale marks executed → (executed ≤ 32 * length word + 8) × (executed ≤ 2024)
   few-executed e =
-      let w = executed-few (mostExecuted (length word)) (machine budget1980 word) (within word judged budget1980 (omega (arith, word-fits wordLimit1980 word judged))) e in
-      (w, omega (arith, w, word-fits wordLimit1980 word judged))
+      let w = executed-few (mostExecuted (length word)) (machine budget1980 word) (within word judged budget1980 (omega (arith, letters-fit wordLimit1980 word judged))) e in
+      (w, omega (arith, w, letters-fit wordLimit1980 word judged))
 
   -- Any two budgets from 32 n + 8 on give the same answer.
   pub same-answer : (a b : ℕ) → 32 * length word + 8 ≤ a → 32 * length word + 8 ≤ b → machine a word ≡ machine b word
@@ -95,13 +95,13 @@ never-ran-out word room after r p e = go (judge1980 word (length room)) refl
     go : (c : Check) → judge1980 word (length room) ≡ c → ⊥
     go Fine j =
         let w = judged-fine word (length room) j in
-        no-ran-out (length word) (mostExecuted (length word)) (machine budget1980 word) (within word w budget1980 (omega (arith, word-fits wordLimit1980 word w)))
+        no-ran-out (length word) (mostExecuted (length word)) (machine budget1980 word) (within word w budget1980 (omega (arith, letters-fit wordLimit1980 word w)))
         (sym (said ∙ said-found (ordered-as word (length room) j) (valuesOf (length word) (machine budget1980 word))))
     go (Refused g) j = no-refusal (said ∙ said-refused (ordered-as word (length room) j) (valuesOf (length word) (machine budget1980 word)))
 
 module _ (a b : ℕ) (h : enough ≤ a) (k : enough ≤ b) (word : List ℕ) where
-  machines-same : judgeWord wordLimit1980 word ≡ Fine → machine a word ≡ machine b word
-  machines-same w = let n = word-fits wordLimit1980 word w in same-answer word w a b (omega arith) (omega arith)
+  machines-same : judgeLetters wordLimit1980 word ≡ Fine → machine a word ≡ machine b word
+  machines-same w = let n = letters-fit wordLimit1980 word w in same-answer word w a b (omega arith) (omega arith)
 
   pub answers-same : (size : ℕ) → answer1980 a word size ≡ answer1980 b word size
   unfolding answer1980

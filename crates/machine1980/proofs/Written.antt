@@ -9,8 +9,8 @@ use lib.Dec.{leb, ltb}
 use lib.ListN.{length, getD, length-append, length-map}
 use Rattle.base.specs.declared.Check.the-variants.{Fine}
 use Rattle.words.specs.Symbols.{small, capital, letter}
-use Rattle.words.specs.Words.{judgeWord}
-use Rattle.words.proofs.Laws.{range-low, range-high, word-letter}
+use Rattle.words.specs.Words.{judgeLetters}
+use Rattle.words.proofs.Laws.{range-low, range-high, letters-byte}
 use Rattle.sheet1980.specs.Sheet.{u, mem, sheetOf, Sheet}
 
 -- a letter's code is one of 1 to 26
@@ -64,10 +64,10 @@ module _ (word : List ℕ) where
       mem-of word k (omega arith) ∙ ap (λ i. getD (0 ∷ five word) i 0) e ∙ five-past word (k - u - 1) (omega arith)
 
 -- a judged word: each place of its sheet
-module _ (limit : ℕ) (word : List ℕ) (judged : judgeWord limit word ≡ Fine) where
+module _ (limit : ℕ) (word : List ℕ) (judged : judgeLetters limit word ≡ Fine) where
   pub all-letters : (k : ℕ) → u < k → k ≤ u + length word → 0 < mem (sheetOf word) k
   all-letters k h l =
-      let c = letter-code (getD word (k - u - 1) 0) (word-letter limit word judged (k - u - 1) (omega arith)) in
+      let c = letter-code (getD word (k - u - 1) 0) (letters-byte limit word judged (k - u - 1) (omega arith)) in
       omega (arith, mem-letter word k h l, c .0)
 
   small-codes : (k : ℕ) → mem (sheetOf word) k ≤ 26
@@ -79,7 +79,7 @@ module _ (limit : ℕ) (word : List ℕ) (judged : judgeWord limit word ≡ Fine
       go true p false q =
           let h = ltb-true u k p in
           let l = ltb-false (u + length word) k q in
-          let c = letter-code (getD word (k - u - 1) 0) (word-letter limit word judged (k - u - 1) (omega arith)) in
+          let c = letter-code (getD word (k - u - 1) 0) (letters-byte limit word judged (k - u - 1) (omega arith)) in
           omega (arith, mem-letter word k h l, c .1)
 
   pub written : Sheet (length word) (sheetOf word)

@@ -7,7 +7,7 @@ use Rattle.base.specs.Limits.{wordLimit1980, roomSize1980}
 use Rattle.base.specs.Grounds.{told, Said, Finds, Refuses, Row, on, firstOf, first, refuseIf}
 use Rattle.base.specs.declared.Check.{Check}
 use Rattle.base.specs.declared.Ground.the-variants.{RoomShort}
-use Rattle.words.specs.Words.{wordGrounds, judgeWord}
+use Rattle.words.specs.Words.{letterGrounds, judgeLetters}
 use Rattle.rooms.specs.Rooms.{isShort, written, nonzero}
 use Rattle.machine1980.specs.Run.{Outcome, RanOut, Marked, machine}
 use Rattle.machine1980.specs.Breaks.{breakSheet}
@@ -16,7 +16,7 @@ use Rattle.machine1980.specs.declared.Answer1980.the-variants as answers
 
 -- "Words are judged as before (5, 2, 4, 3)", with limits of this call's own.
 unfoldable pub grounds1980 : List ℕ → ℕ → List Row
-grounds1980 word size = on 5 (isShort roomSize1980 size) ∷ wordGrounds wordLimit1980 word
+grounds1980 word size = on 5 (isShort roomSize1980 size) ∷ letterGrounds wordLimit1980 word
 
 -- What came out, by its number: ""Ran out", if more are needed, is an answer of its own".
 abbrev pub answeredOutcome : ℕ
@@ -67,4 +67,4 @@ pub record Reprints (budget : ℕ) (word room : List ℕ) (r : Answer1980) (afte
 
 -- The grounds as they are judged, one after the other.
 unfoldable pub judge1980 : List ℕ → ℕ → Check
-judge1980 word size = first (refuseIf (isShort roomSize1980 size) RoomShort) (judgeWord wordLimit1980 word)
+judge1980 word size = first (refuseIf (isShort roomSize1980 size) RoomShort) (judgeLetters wordLimit1980 word)

@@ -8,7 +8,7 @@ ghost use lib.ListN.{length};
 ghost use Rattle.base.specs.Limits.{wordLimit1980, roomSize1980, shortWord1980, budget1980};
 ghost use Rattle.base.specs.Grounds.{Finds, says, firstOf};
 ghost use Rattle.base.specs.declared.Check.{Check};
-ghost use Rattle.words.specs.Words.{judgeWord};
+ghost use Rattle.words.specs.Words.{judgeLetters};
 ghost use Rattle.rooms.specs.Rooms.{written, bit};
 ghost use Rattle.sheet1980.specs.Sheet.{Sheet};
 ghost use Rattle.prefix1980.specs.Prefixes.{phase3};
@@ -51,7 +51,7 @@ pub fn judge_1980(word: &[u8], size: usize) -> Check
     if rooms::is_short(size, base::ROOM_SIZE_1980) {
         return Check::Refused(Ground::RoomShort);
     }
-    words::judge_word(word, base::WORD_LIMIT_1980)
+    words::judge_letters(word, base::WORD_LIMIT_1980)
 }
 
 // Phases 3 and 4, with what phase 2 has left of the budget.
@@ -121,7 +121,7 @@ fn put_breaks(n: usize, finale: usize, sheet: &[u8], room: &mut [u8])
 
 // What is found of a judged word of more than four letters in a judged room, on a sheet of its size. The room is written at the end.
 fn reprint_on(budget: usize, word: &[u8], sheet: &mut [u8], room: &mut [u8]) -> Answer1980
-    requires { ⌜ (judgeWord wordLimit1980 (now word) ≡ Check.Fine) × (shortWord1980 < length (now word)) × (length (now sheet) ≡ length (now word) + 2) × (roomSize1980 ≤ length (now room)) ⌝ }
+    requires { ⌜ (judgeLetters wordLimit1980 (now word) ≡ Check.Fine) × (shortWord1980 < length (now word)) × (length (now sheet) ≡ length (now word) + 2) × (roomSize1980 ≤ length (now room)) ⌝ }
     ensures { λ r. ⌜ Answered budget (now (word .entry)) (now (room .entry)) r (now (room .exit)) ⌝ }
 {
     let n = word.len();
@@ -138,7 +138,7 @@ fn reprint_on(budget: usize, word: &[u8], sheet: &mut [u8], room: &mut [u8]) -> 
 
 // What is found of a judged word in a judged room.
 fn find_breaks(budget: usize, word: &[u8], room: &mut [u8]) -> Answer1980
-    requires { ⌜ (judgeWord wordLimit1980 (now word) ≡ Check.Fine) × (roomSize1980 ≤ length (now room)) ⌝ }
+    requires { ⌜ (judgeLetters wordLimit1980 (now word) ≡ Check.Fine) × (roomSize1980 ≤ length (now room)) ⌝ }
     ensures { λ r. ⌜ Answered budget (now (word .entry)) (now (room .entry)) r (now (room .exit)) ⌝ }
 {
     let n = word.len();

@@ -7,13 +7,14 @@ use native.Mathlib.Omega.{arith}
 use borrow.Author.Tests.{leb-true, le-leb, eqb-false}
 use lib.Dec.{leb, eqb}
 use lib.ListN.{length, getD, length-map}
-use Rattle.base.specs.Limits.{edge, symbolLimit, patternLimit, patternText, levelLimit}
+use Rattle.base.specs.Limits.{edge, apostropheSymbol, symbolLimit, patternLimit, patternText, levelLimit}
 use Rattle.base.specs.declared.Check.the-variants.{Fine}
 use Rattle.base.proofs.Grounds.{both-fine}
 use Rattle.base.proofs.Lists.{clash, never, both}
-use Rattle.words.specs.Symbols.{dot, small, digit, symbolOf, symbolsOf}
+use Rattle.words.specs.Symbols.{dot, apostrophe, small, digit, symbolOf, symbolsOf}
 use Rattle.words.proofs.Laws.{range-high, small-symbol}
-use Rattle.lines.specs.Lines.{cut, anyOf, patternForm, goodPattern}
+use Rattle.lines.specs.Apostrophes.{apostrophesFit}
+use Rattle.lines.specs.Lines.{cut, anyOf, lineLetter, patternForm, patternBytes, goodPattern}
 use Rattle.lists.specs.Lists.{goodLine, firstBad, judgeLines, judgeSize, badPattern, judgePatterns}
 use Rattle.lists.specs.declared.Form.{Form}
 use Rattle.lists.specs.declared.Form.the-variants.{Patterns}
@@ -24,15 +25,16 @@ use Rattle.liang.specs.Patterns.{levelsFrom, patternOf, patternsOf}
 use Rattle.patterns.proofs.Laws.{line-levels}
 use Rattle.patterns.specs.Strings.{allSymbols, nth, Shaped, Sorted}
 
--- a symbol is 1 to 27
+-- a symbol is 1 to 28
 symbol-most : (b : ℕ) → symbolOf b ≤ symbolLimit
 unfolding symbolOf small
-symbol-most b = go (small b) refl (eqb b dot)
+symbol-most b = go (small b) refl (eqb b dot) (eqb b apostrophe)
   where
-    go : (z : Bool) → small b ≡ z → (d : Bool) → cond z (b - 96) (cond d edge 0) ≤ symbolLimit
-    go true e d = omega (arith, range-high 97 122 b e)
-    go false e true = omega arith
-    go false e false = omega arith
+    go : (z : Bool) → small b ≡ z → (d q : Bool) → cond z (b - 96) (cond d edge (cond q apostropheSymbol 0)) ≤ symbolLimit
+    go true e d q = omega (arith, range-high 97 122 b e)
+    go false e true q = omega arith
+    go false e false true = omega arith
+    go false e false false = omega arith
 
 symbol-range : (b : ℕ) → eqb (symbolOf b) 0 ≡ false → (leb 1 (symbolOf b) && leb (symbolOf b) symbolLimit) ≡ true
 symbol-range b e =
@@ -64,9 +66,10 @@ line-some (b ∷ t) e = go (small b) refl e (line-some t)
     go false p h next = skip (eqb (symbolOf b) 0) (next h)
 
 good-shaped : (line : List ℕ) → goodPattern line ≡ true → Shaped (patternOf line)
-unfolding goodPattern patternOf
+unfolding goodPattern patternBytes patternOf
 good-shaped line e =
-    let a = both (patternForm true false line) (anyOf small line && (anyOf digit line && leb (length (symbolsOf line)) patternLimit)) e in
+    let w = both (patternBytes lineLetter line) (apostrophesFit true true (symbolsOf line)) e in
+    let a = both (patternForm lineLetter true false line) (anyOf small line && (anyOf digit line && leb (length (symbolsOf line)) patternLimit)) (w .0) in
     let b = both (anyOf small line) (anyOf digit line && leb (length (symbolsOf line)) patternLimit) (a .1) in
     let c = both (anyOf digit line) (leb (length (symbolsOf line)) patternLimit) (b .1) in
     record {

@@ -9,7 +9,7 @@ use lib.Dec.{eqb}
 use lib.ListN.{length, getD, drop, drop-of-length-le}
 use Rattle.base.proofs.Lists.{cons-at, never}
 use Rattle.words.specs.Symbols.{small, digit, symbolOf, symbolsOf}
-use Rattle.words.proofs.Laws.{small-not-digit, other-symbol, digit-not-dot, symbols-skip, symbols-keep}
+use Rattle.words.proofs.Laws.{small-not-digit, other-symbol, digit-not-dot, digit-not-apostrophe, symbols-skip, symbols-keep}
 use Rattle.liang.specs.Patterns.{levelsFrom}
 use Rattle.patterns.specs.Common.{common}
 use Rattle.patterns.specs.Post.{Parts}
@@ -55,7 +55,7 @@ digit-symbol b d = go (small b) refl
   where
     go : (z : Bool) → small b ≡ z → eqb (symbolOf b) 0 ≡ true
     go true p = never (sym (small-not-digit b p) ∙ d)
-    go false p = other-symbol b p (digit-not-dot b d)
+    go false p = other-symbol b p (digit-not-dot b d) (digit-not-apostrophe b d)
 
 pub rest-digit : (l : List ℕ) (i : ℕ) → i < length l → digit (getD l i 0) ≡ true → symbolsOf (drop i l) ≡ symbolsOf (drop (i + 1) l)
 rest-digit l i h d = rest-skip l i h refl (eqb-true (symbolOf (getD l i 0)) 0 (digit-symbol (getD l i 0) d))

@@ -193,7 +193,7 @@ take-begins (x ∷ u) (y ∷ a) b = let p = begins-cons x y u a b in rw (p .0, t
 pub begins-whole : (u a : List ℕ) → begins u a ≡ true → length a ≤ length u → a ≡ u
 begins-whole u a b h = sym (take-all (length u) a h) ∙ take-begins u a b
 
--- a string's symbols are 1 to 27
+-- a string's symbols are 1 to 28
 pub alphabet-first : (s : ℕ) (u : List ℕ) → allSymbols (s ∷ u) ≡ true → (1 ≤ s) × (s ≤ symbolLimit)
 unfolding allSymbols
 alphabet-first s u a = let p = both (leb 1 s && leb s symbolLimit) (allSymbols u) a in (range-low 1 symbolLimit s (p .0), range-high 1 symbolLimit s (p .0))

@@ -10,7 +10,7 @@ use Rattle.lines.specs.Order.{before}
 use Rattle.liang.specs.Patterns.{Pattern}
 use Rattle.liang.specs.Levels.{begins}
 
--- Symbols: 1 to 27.
+-- Symbols: 1 to 28.
 unfoldable pub allSymbols : List ℕ → Bool
 allSymbols [] = true
 allSymbols (s ∷ u) = (leb 1 s && leb s symbolLimit) && allSymbols u

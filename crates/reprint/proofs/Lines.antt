@@ -19,7 +19,7 @@ use Rattle.writing.specs.Writing.{question, hyphenated}
 use Rattle.writing.proofs.Going.{put-as}
 use Rattle.writing.proofs.Laws.{word-short, marks-front}
 use Rattle.words.specs.Symbols.{lineFeed, hyphen}
-use Rattle.words.proofs.Laws.{word-fits}
+use Rattle.words.proofs.Laws.{letters-fit}
 use Rattle.report.specs.Report.{toldLine, refusalLine}
 use Rattle.report.proofs.Word.{told-short}
 use Rattle.machine1980.specs.Run.{Outcome, RanOut, Marked, machine}
@@ -44,7 +44,7 @@ module _ (word : List ℕ) (size : ℕ) where
   refusal e = said-refused (judged-as e) (valuesOf (length word) (machine budget1980 word))
 
   letters-few : judge1980 word size ≡ Fine → length word ≤ wordLimit1980
-  letters-few e = word-fits wordLimit1980 word (sizes word size (ordered-1980 word size .same) e .0)
+  letters-few e = letters-fit wordLimit1980 word (sizes word size (ordered-1980 word size .same) e .0)
 
   -- a finding is of a judged word
   found-fine : {values : List ℕ} → Finds values ≡ answer1980 budget1980 word size → judge1980 word size ≡ Fine

@@ -1,5 +1,5 @@
 // The figures of document 01 that are run and compared, judgements of words and lists and lookups, and those of CR 1, breaks by
-// exception lines, and of CR 2, which break fits. Each line of the output is a sample and what it is told: number, list and place, all 0
+// exception lines, of CR 2, which break fits, and of CR 5, apostrophes. Each line of the output is a sample and what it is told: number, list and place, all 0
 // where nothing is refused; the line that is shown for a word; behind word and margins the number of breaks, the count and the gaps that
 // break; or, behind a word and the line in words, what came out and the gap, a refusal as "?", number and place.
 use base::Check;
@@ -259,6 +259,38 @@ fn some_fits() {
     fit(b"a bad byte before a bad width", -1.0, 1.0, 1.0, 1.0, b"a1");
 }
 
+// CR 5: the same of words, lines and widths with an apostrophe.
+fn some_apostrophes() {
+    word(b"l'entrata");
+    word(b"L'E");
+    word(b"'a");
+    word(b"a'");
+    word(b"a''b");
+    word(b"a'1");
+    patterns(b"l'1e\nz1\n.a1\n'a1\n'a1.\n'a'1\n");
+    patterns(b"'a1\n.a1\n");
+    patterns(b".'a1\n");
+    patterns(b"a1'.\n");
+    patterns(b"a'1'b\n");
+    patterns(b"'1\n");
+    exceptions(b"l'-en\nl-'-en-tra-ta\n");
+    exceptions(b"a'-'b\n");
+    exceptions(b"l'\n");
+    find(b"L'ENTRATA", b"l'en-tra-ta\n", b"l'-entrata\n");
+    find(b"lentrata", b"l'en-tra-ta\n", b"");
+    breaks(2, 3, b"l'entrata", b"", b"l'-en-tra-ta\n");
+    breaks(3, 2, b"l'entrata", b"", b"l'-en-tra-ta\n");
+    fit(
+        b"a letter of 1, all else 2, in 3",
+        0.0,
+        3.0,
+        1.0,
+        2.0,
+        b"a'b",
+    );
+    fit(b"a bad byte at the end", 0.0, 3.0, 1.0, 2.0, b"a'");
+}
+
 fn main() {
     some_words();
     some_patterns();
@@ -266,4 +298,5 @@ fn main() {
     some_lookups();
     some_breaks();
     some_fits();
+    some_apostrophes();
 }

@@ -140,7 +140,7 @@ fn fill_row(word: &[u8], row: &mut [u8])
     row[0] = base::EDGE;
     let mut i = 0;
     while i < word.len() {
-        row[i + 1] = words::letter_symbol(word[i]);
+        row[i + 1] = words::word_symbol(word[i]);
         i += 1;
     }
     row[i + 1] = base::EDGE;

@@ -1,20 +1,22 @@
 -- Laws about letters, symbols and words. Function proofs and other crates cite these and not the definitions.
 use Prim.Native.Nat.{ℕ, zero, suc, _+_, _-_, _≤_, _<_}
-use mathlib.Core.Bool.{Bool, true, false, cond, _&&_}
+use mathlib.Core.Bool.{Bool, true, false, cond, not, _&&_, _||_, or-false}
 use mathlib.Core.List.{List, [], _∷_, _++_}
 use mathlib.Core.Path.{_≡_, refl, sym, _∙_, ap}
 use native.Mathlib.Omega.{arith}
-use borrow.Author.Tests.{lt-leb, le-leb, lt-ltb, le-ltb, eq-eqb, ne-eqb, leb-true, ltb-false, eqb-false}
+use borrow.Author.Tests.{lt-leb, le-leb, lt-ltb, le-ltb, eq-eqb, ne-eqb, leb-true, ltb-false, eqb-false, not-true, not-false}
 use lib.Dec.{leb, ltb, eqb}
 use lib.ListN.{length, getD, drop, length-append, drop-of-length-le}
-use Rattle.base.specs.Limits.{edge}
+use Rattle.base.specs.Limits.{edge, apostropheSymbol}
+use Rattle.base.specs.declared.Check.{Check}
 use Rattle.base.specs.declared.Check.the-variants.{Fine, Refused}
+use Rattle.base.specs.declared.Ground.{Ground}
 use Rattle.base.specs.declared.Ground.the-variants.{WordEmpty, WordLong, NotLetter}
-use Rattle.base.specs.Grounds.{first, refuseIf}
+use Rattle.base.specs.Grounds.{refuseIf}
 use Rattle.base.proofs.Grounds.{both-fine, not-refused}
 use Rattle.base.proofs.Lists.{clash, cons-at, never}
-use Rattle.words.specs.Symbols.{small, capital, letter, lower, digit, symbolOf, symbolsOf, dot}
-use Rattle.words.specs.Words.{allLetters, judgeWord, wordSymbols, rowOf}
+use Rattle.words.specs.Symbols.{small, capital, letter, lower, digit, symbolOf, symbolsOf, dot, apostrophe}
+use Rattle.words.specs.Words.{Rule, lettersAlone, startsLetter, isBetween, withApostrophes, allFit, judgeLength, judgeBy, judgeWord, judgeLetters, wordByte, wordSymbols, rowOf}
 
 -- a range of bytes, from below and from above
 pub below-range : (lo hi b : ℕ) → b < lo → false ≡ (leb lo b && leb b hi)
@@ -75,63 +77,166 @@ pub symbol-dot : (b : ℕ) → small b ≡ false → b ≡ dot → edge ≡ symb
 unfolding symbolOf
 symbol-dot b e d = rw (e, eq-eqb b dot d)
 
-pub symbol-none : (b : ℕ) → small b ≡ false → (b ≡ dot → ⊥) → 0 ≡ symbolOf b
+pub symbol-apostrophe : (b : ℕ) → small b ≡ false → (b ≡ dot → ⊥) → b ≡ apostrophe → apostropheSymbol ≡ symbolOf b
 unfolding symbolOf
-symbol-none b e d = rw (e, ne-eqb b dot d)
+symbol-apostrophe b e d q = rw (e, ne-eqb b dot d, eq-eqb b apostrophe q)
 
--- the judgement of a word, by the way the code goes
-pub word-empty : (limit : ℕ) (w : List ℕ) → length w ≡ 0 → Refused WordEmpty ≡ judgeWord limit w
-unfolding judgeWord
-word-empty limit w h = rw (eq-eqb (length w) 0 h)
+pub symbol-none : (b : ℕ) → small b ≡ false → (b ≡ dot → ⊥) → (b ≡ apostrophe → ⊥) → 0 ≡ symbolOf b
+unfolding symbolOf
+symbol-none b e d q = rw (e, ne-eqb b dot d, ne-eqb b apostrophe q)
 
-pub word-long : (limit : ℕ) (w : List ℕ) → (length w ≡ 0 → ⊥) → limit < length w → Refused WordLong ≡ judgeWord limit w
-unfolding judgeWord
-word-long limit w h k = rw (ne-eqb (length w) 0 h, lt-ltb limit (length w) k)
+-- the judgement of a word's length, by the way the code goes
+pub length-none : (limit size : ℕ) → size ≡ 0 → Refused WordEmpty ≡ judgeLength limit size
+unfolding judgeLength
+length-none limit size h = rw (eq-eqb size 0 h)
 
-pub word-scan : (limit : ℕ) (w : List ℕ) → (length w ≡ 0 → ⊥) → length w ≤ limit → judgeWord limit w ≡ allLetters 0 w
-unfolding judgeWord
-word-scan limit w h k = rw (ne-eqb (length w) 0 h, le-ltb limit (length w) k)
+pub length-over : (limit size : ℕ) → (size ≡ 0 → ⊥) → limit < size → Refused WordLong ≡ judgeLength limit size
+unfolding judgeLength
+length-over limit size h k = rw (ne-eqb size 0 h, lt-ltb limit size k)
 
-pub letters-pass : (w : List ℕ) (i : ℕ) → i < length w → letter (getD w i 0) ≡ true → allLetters i (drop i w) ≡ allLetters (i + 1) (drop (i + 1) w)
-unfolding allLetters
-letters-pass w i h e = rw (cons-at w i h, e)
+pub length-fine : (limit size : ℕ) → (size ≡ 0 → ⊥) → size ≤ limit → Fine ≡ judgeLength limit size
+unfolding judgeLength
+length-fine limit size h k = rw (ne-eqb size 0 h, le-ltb limit size k)
 
-pub letters-stop : (w : List ℕ) (i : ℕ) → i < length w → letter (getD w i 0) ≡ false → allLetters i (drop i w) ≡ Refused (NotLetter i)
-unfolding allLetters
-letters-stop w i h e = rw (cons-at w i h, e)
+-- the judgement of a word under any rule: by its length, then byte by byte
+module _ (rule : Rule) (limit : ℕ) (w : List ℕ) {c : Check} (l : c ≡ judgeLength limit (length w)) where
+  pub word-refused : {g : Ground} → c ≡ Refused g → Refused g ≡ judgeBy rule limit w
+  unfolding judgeBy
+  word-refused r = rw (sym l ∙ r)
 
-pub letters-end : (w : List ℕ) (i : ℕ) → length w ≤ i → allLetters i (drop i w) ≡ Fine
-unfolding allLetters
-letters-end w i h = rw (drop-of-length-le w h)
+  pub word-scan : c ≡ Fine → judgeBy rule limit w ≡ allFit rule 0 false w
+  unfolding judgeBy
+  word-scan r = rw (sym l ∙ r)
 
--- which classes of bytes exclude each other
-letters-each : (at : ℕ) (l : List ℕ) → allLetters at l ≡ Fine → (i : ℕ) → i < length l → letter (getD l i 0) ≡ true
-unfolding allLetters
-letters-each at [] e i h = absurd (omega arith)
-letters-each at (b ∷ t) e i h = go (letter b) refl e (letters-each (at + 1) t) i h
+module _ (rule : Rule) (after : Bool) (w : List ℕ) (i : ℕ) (h : i < length w) where
+  fit-on : rule after (getD w i 0) (drop (i + 1) w) ≡ true → allFit rule i after (drop i w) ≡ allFit rule (i + 1) (letter (getD w i 0)) (drop (i + 1) w)
+  unfolding allFit
+  fit-on e = rw (cons-at w i h, e)
+
+  fit-stop : rule after (getD w i 0) (drop (i + 1) w) ≡ false → allFit rule i after (drop i w) ≡ Refused (NotLetter i)
+  unfolding allFit
+  fit-stop e = rw (cons-at w i h, e)
+
+pub fit-end : (rule : Rule) (after : Bool) (w : List ℕ) (i : ℕ) → length w ≤ i → allFit rule i after (drop i w) ≡ Fine
+unfolding allFit
+fit-end rule after w i h = rw (drop-of-length-le w h)
+
+-- letters alone
+letters-any : (w : List ℕ) (at : ℕ) (a b : Bool) → allFit lettersAlone at a w ≡ allFit lettersAlone at b w
+unfolding allFit lettersAlone
+letters-any [] at a b = refl
+letters-any (x ∷ w) at a b = refl
+
+module _ (w : List ℕ) (i : ℕ) (h : i < length w) where
+  pub letters-pass : letter (getD w i 0) ≡ true → allFit lettersAlone i false (drop i w) ≡ allFit lettersAlone (i + 1) false (drop (i + 1) w)
+  unfolding lettersAlone
+  letters-pass e = fit-on lettersAlone false w i h e ∙ letters-any (drop (i + 1) w) (i + 1) (letter (getD w i 0)) false
+
+  pub letters-stop : letter (getD w i 0) ≡ false → allFit lettersAlone i false (drop i w) ≡ Refused (NotLetter i)
+  unfolding lettersAlone
+  letters-stop e = fit-stop lettersAlone false w i h e
+
+-- letters, and apostrophes between two of them
+module _ (w : List ℕ) (i : ℕ) (after : Bool) where
+  pub between-other : (getD w i 0 ≡ apostrophe → ⊥) → false ≡ isBetween after (getD w i 0) (drop (i + 1) w)
+  unfolding isBetween
+  between-other q = rw (ne-eqb (getD w i 0) apostrophe q)
+
+  pub between-first : getD w i 0 ≡ apostrophe → not after ≡ true → false ≡ isBetween after (getD w i 0) (drop (i + 1) w)
+  unfolding isBetween
+  between-first q a = rw (eq-eqb (getD w i 0) apostrophe q, not-true after a)
+
+  module _ (q : getD w i 0 ≡ apostrophe) (a : not after ≡ false) where
+    pub between-last : length w ≤ i + 1 → false ≡ isBetween after (getD w i 0) (drop (i + 1) w)
+    unfolding isBetween startsLetter
+    between-last h = rw (eq-eqb (getD w i 0) apostrophe q, not-false after a, drop-of-length-le w h)
+
+    pub between-inside : i + 1 < length w → letter (getD w (i + 1) 0) ≡ isBetween after (getD w i 0) (drop (i + 1) w)
+    unfolding isBetween startsLetter
+    between-inside h = rw (eq-eqb (getD w i 0) apostrophe q, not-false after a, cons-at w (i + 1) h)
+
+module _ (w : List ℕ) (i : ℕ) (h : i < length w) (after : Bool) where
+  pub word-letter : letter (getD w i 0) ≡ true → allFit withApostrophes i after (drop i w) ≡ allFit withApostrophes (i + 1) true (drop (i + 1) w)
+  unfolding withApostrophes
+  word-letter e = fit-on withApostrophes after w i h (rw e) ∙ ap (λ (z : Bool). allFit withApostrophes (i + 1) z (drop (i + 1) w)) e
+
+  module _ (e : letter (getD w i 0) ≡ false) {r : Bool} (p : r ≡ isBetween after (getD w i 0) (drop (i + 1) w)) where
+    pub word-between : not r ≡ false → allFit withApostrophes i after (drop i w) ≡ allFit withApostrophes (i + 1) false (drop (i + 1) w)
+    unfolding withApostrophes
+    word-between q = fit-on withApostrophes after w i h (rw (e, sym p ∙ not-false r q)) ∙ ap (λ (z : Bool). allFit withApostrophes (i + 1) z (drop (i + 1) w)) e
+
+    pub word-stop : not r ≡ true → allFit withApostrophes i after (drop i w) ≡ Refused (NotLetter i)
+    unfolding withApostrophes
+    word-stop q = fit-stop withApostrophes after w i h (rw (e, sym p ∙ not-true r q))
+
+-- what a judged word is: not empty, short, and each byte as its rule has it
+fits-each : (rule : Rule) (test : ℕ → Bool) → ((after : Bool) (b : ℕ) (t : List ℕ) → rule after b t ≡ true → test b ≡ true)
+    → (at : ℕ) (after : Bool) (l : List ℕ) → allFit rule at after l ≡ Fine → (i : ℕ) → i < length l → test (getD l i 0) ≡ true
+unfolding allFit
+fits-each rule test says at after [] e i h = absurd (omega arith)
+fits-each rule test says at after (b ∷ t) e i h = go (rule after b t) refl e (fits-each rule test says (at + 1) (letter b) t) i h
   where
-    go : (z : Bool) → letter b ≡ z → cond z (allLetters (at + 1) t) (Refused (NotLetter at)) ≡ Fine → (allLetters (at + 1) t ≡ Fine → (i : ℕ) → i < length t → letter (getD t i 0) ≡ true)
-        → (i : ℕ) → i < length (b ∷ t) → letter (getD (b ∷ t) i 0) ≡ true
-    go true p q next zero k = p
+    go : (z : Bool) → rule after b t ≡ z → cond z (allFit rule (at + 1) (letter b) t) (Refused (NotLetter at)) ≡ Fine
+        → (allFit rule (at + 1) (letter b) t ≡ Fine → (i : ℕ) → i < length t → test (getD t i 0) ≡ true) → (i : ℕ) → i < length (b ∷ t) → test (getD (b ∷ t) i 0) ≡ true
+    go true p q next zero k = says after b t p
     go true p q next (suc i) k = next q i (omega arith)
     go false p q next i k = clash cc
 
--- what a judged word is: not empty, short, and all letters
-module _ (limit : ℕ) (w : List ℕ) (fine : judgeWord limit w ≡ Fine) where
-  some-fine : first (refuseIf (ltb limit (length w)) WordLong) (allLetters 0 w) ≡ Fine
-  unfolding judgeWord
-  some-fine = both-fine (refuseIf (eqb (length w) 0) WordEmpty) _ fine .1
+module _ (rule : Rule) (limit : ℕ) (w : List ℕ) (fine : judgeBy rule limit w ≡ Fine) where
+  judged-length : judgeLength limit (length w) ≡ Fine
+  unfolding judgeBy
+  judged-length = both-fine (judgeLength limit (length w)) (allFit rule 0 false w) fine .0
 
+  pub judged-bytes : allFit rule 0 false w ≡ Fine
+  unfolding judgeBy
+  judged-bytes = both-fine (judgeLength limit (length w)) (allFit rule 0 false w) fine .1
+
+  judged-some : 0 < length w
+  unfolding judgeLength
+  judged-some =
+      let n = eqb-false (length w) 0 (not-refused (eqb (length w) 0) WordEmpty (both-fine (refuseIf (eqb (length w) 0) WordEmpty) _ judged-length .0)) in omega (arith, n)
+
+  judged-fits : length w ≤ limit
+  unfolding judgeLength
+  judged-fits = ltb-false limit (length w) (not-refused (ltb limit (length w)) WordLong (both-fine (refuseIf (eqb (length w) 0) WordEmpty) _ judged-length .1))
+
+module _ (limit : ℕ) (w : List ℕ) (fine : judgeLetters limit w ≡ Fine) where
+  pub letters-fit : length w ≤ limit
+  letters-fit = judged-fits lettersAlone limit w fine
+
+  pub letters-byte : (i : ℕ) → i < length w → letter (getD w i 0) ≡ true
+  unfolding lettersAlone
+  letters-byte = fits-each lettersAlone letter (λ after b t e. e) 0 false w (judged-bytes lettersAlone limit w fine)
+
+between-byte : (after : Bool) (b : ℕ) (t : List ℕ) → withApostrophes after b t ≡ true → wordByte b ≡ true
+unfolding withApostrophes isBetween wordByte
+between-byte after b t e = go (letter b) (eqb b apostrophe) (after && startsLetter t) e
+  where
+    go : (x y z : Bool) → (x || (y && z)) ≡ true → (x || y) ≡ true
+    go true y z h = refl
+    go false true z h = refl
+    go false false z h = h
+
+module _ (limit : ℕ) (w : List ℕ) (fine : judgeWord limit w ≡ Fine) where
   pub word-some : 0 < length w
-  unfolding judgeWord
-  word-some = let n = eqb-false (length w) 0 (not-refused (eqb (length w) 0) WordEmpty (both-fine (refuseIf (eqb (length w) 0) WordEmpty) _ fine .0)) in omega (arith, n)
+  word-some = judged-some withApostrophes limit w fine
 
   pub word-fits : length w ≤ limit
-  word-fits = ltb-false limit (length w) (not-refused (ltb limit (length w)) WordLong (both-fine (refuseIf (ltb limit (length w)) WordLong) (allLetters 0 w) some-fine .0))
+  word-fits = judged-fits withApostrophes limit w fine
 
-  pub word-letter : (i : ℕ) → i < length w → letter (getD w i 0) ≡ true
-  word-letter = letters-each 0 w (both-fine (refuseIf (ltb limit (length w)) WordLong) (allLetters 0 w) some-fine .1)
+  pub word-byte : (i : ℕ) → i < length w → wordByte (getD w i 0) ≡ true
+  word-byte = fits-each withApostrophes wordByte between-byte 0 false w (judged-bytes withApostrophes limit w fine)
 
+-- a byte of a word that is no apostrophe is a letter
+pub byte-letter : (b : ℕ) → wordByte b ≡ true → (b ≡ apostrophe → ⊥) → letter b ≡ true
+unfolding wordByte
+byte-letter b e q = sym (or-false (letter b)) ∙ rw (← ne-eqb b apostrophe q) e
+
+pub apostrophe-lower : (b : ℕ) → b ≡ apostrophe → apostropheSymbol ≡ symbolOf (lower b)
+unfolding symbolOf lower capital small
+apostrophe-lower b q = rw q
+
+-- which classes of bytes exclude each other
 pub small-not-digit : (b : ℕ) → small b ≡ true → digit b ≡ false
 unfolding digit
 small-not-digit b e = let h : 57 < b = omega (arith, small-low b e) in rw (lt-leb b 57 h, le-leb 49 b (omega arith))
@@ -142,12 +247,22 @@ small-symbol b e = ne-eqb (symbolOf b) 0 (λ z. omega (arith, small-low b e, sym
 pub dot-symbol : (b : ℕ) → small b ≡ false → b ≡ dot → eqb (symbolOf b) 0 ≡ false
 dot-symbol b e d = ne-eqb (symbolOf b) 0 (λ z. omega (arith, symbol-dot b e d, z))
 
-pub other-symbol : (b : ℕ) → small b ≡ false → (b ≡ dot → ⊥) → eqb (symbolOf b) 0 ≡ true
-other-symbol b e d = eq-eqb (symbolOf b) 0 (sym (symbol-none b e d))
+pub apostrophe-symbol : (b : ℕ) → small b ≡ false → b ≡ apostrophe → eqb (symbolOf b) 0 ≡ false
+apostrophe-symbol b e q = ne-eqb (symbolOf b) 0 (λ z. omega (arith, symbol-apostrophe b e (λ d. omega (arith, d, q)) q, z))
+
+pub other-symbol : (b : ℕ) → small b ≡ false → (b ≡ dot → ⊥) → (b ≡ apostrophe → ⊥) → eqb (symbolOf b) 0 ≡ true
+other-symbol b e d q = eq-eqb (symbolOf b) 0 (sym (symbol-none b e d q))
+
+pub small-not-apostrophe : (b : ℕ) → small b ≡ true → b ≡ apostrophe → ⊥
+small-not-apostrophe b e q = omega (arith, small-low b e, q)
 
 pub digit-not-dot : (b : ℕ) → digit b ≡ true → b ≡ dot → ⊥
 unfolding digit
 digit-not-dot b e d = omega (arith, range-low 49 57 b e, d)
+
+pub digit-not-apostrophe : (b : ℕ) → digit b ≡ true → b ≡ apostrophe → ⊥
+unfolding digit
+digit-not-apostrophe b e q = omega (arith, range-low 49 57 b e, q)
 
 -- the symbols of what is left of a line, by the class of its first byte
 pub symbols-skip : (b : ℕ) (t : List ℕ) → eqb (symbolOf b) 0 ≡ true → symbolsOf (b ∷ t) ≡ symbolsOf t

@@ -13,7 +13,7 @@ use Rattle.base.specs.declared.Check.the-variants.{Refused}
 use Rattle.base.specs.declared.Ground.the-variants.{WordEmpty, WordLong, NotLetter}
 use Rattle.base.proofs.Grounds.{Ordered, ordered-first, ordered-if}
 use Rattle.words.specs.Symbols.{letter}
-use Rattle.words.specs.Words.{leading, wordGrounds, allLetters, judgeWord}
+use Rattle.words.specs.Words.{Rule, lettersAlone, withApostrophes, leading, groundsBy, wordGrounds, letterGrounds, allFit, judgeLength, judgeBy, judgeWord, judgeLetters}
 
 -- ground 3 among bytes of which `at` stand before the first one given
 abbrev atLeading : ℕ → ℕ → ℕ → Said
@@ -26,22 +26,29 @@ one-further at n size = go (decLt n size)
     go (yes h) = let e : at + 1 + n ≡ at + suc n = omega arith in rw (lt-ltb n size h, lt-ltb (suc n) (suc size) (omega arith), e)
     go (no h) = rw (le-ltb n size (omega arith), le-ltb (suc n) (suc size) (omega arith))
 
-letters-said : (at : ℕ) (w : List ℕ) → says (allLetters at w) ≡ atLeading at (leading w) (length w)
-unfolding says allLetters leading
-letters-said at [] = refl
-letters-said at (b ∷ t) = go (letter b) (letters-said (at + 1) t)
-  where
-    go : (z : Bool) → says (allLetters (at + 1) t) ≡ atLeading (at + 1) (leading t) (length t)
-        → says (cond z (allLetters (at + 1) t) (Refused (NotLetter at))) ≡ atLeading at (cond z (suc (leading t)) 0) (suc (length t))
-    go true e = e ∙ one-further at (leading t) (length t)
-    go false e = let z : at + 0 ≡ at = omega arith in rw (lt-ltb 0 (suc (length t)) (omega arith), z)
+module _ (rule : Rule) where
+  fit-said : (at : ℕ) (after : Bool) (w : List ℕ) → says (allFit rule at after w) ≡ atLeading at (leading rule after w) (length w)
+  unfolding says allFit leading
+  fit-said at after [] = refl
+  fit-said at after (b ∷ t) = go (rule after b t) (fit-said (at + 1) (letter b) t)
+    where
+      go : (z : Bool) → says (allFit rule (at + 1) (letter b) t) ≡ atLeading (at + 1) (leading rule (letter b) t) (length t)
+          → says (cond z (allFit rule (at + 1) (letter b) t) (Refused (NotLetter at))) ≡ atLeading at (cond z (suc (leading rule (letter b) t)) 0) (suc (length t))
+      go true e = e ∙ one-further at (leading rule (letter b) t) (length t)
+      go false e = let z : at + 0 ≡ at = omega arith in rw (lt-ltb 0 (suc (length t)) (omega arith), z)
 
-letters-ordered : (w : List ℕ) → Ordered (allLetters 0 w) (onAt 3 (leading w) (ltb (leading w) (length w)) ∷ [])
-unfolding firstOf
-letters-ordered w =
-    let z : 0 + leading w ≡ leading w = omega arith in
-    record { same = letters-said 0 w ∙ ap (λ (n : ℕ). cond (ltb (leading w) (length w)) (Refuses (placed 3 n)) (Finds [])) z }
+  fit-ordered : (w : List ℕ) → Ordered (allFit rule 0 false w) (onAt 3 (leading rule false w) (ltb (leading rule false w) (length w)) ∷ [])
+  unfolding firstOf
+  fit-ordered w =
+      let z : 0 + leading rule false w ≡ leading rule false w = omega arith in
+      record { same = fit-said 0 false w ∙ ap (λ (n : ℕ). cond (ltb (leading rule false w) (length w)) (Refuses (placed 3 n)) (Finds [])) z }
+
+  judged-ordered : (limit : ℕ) (w : List ℕ) → Ordered (judgeBy rule limit w) (groundsBy rule limit w)
+  unfolding judgeBy judgeLength groundsBy
+  judged-ordered limit w = ordered-first (ordered-first (ordered-if (eqb (length w) 0) WordEmpty) (ordered-if (ltb limit (length w)) WordLong)) (fit-ordered w)
 
 pub word-ordered : (limit : ℕ) (w : List ℕ) → Ordered (judgeWord limit w) (wordGrounds limit w)
-unfolding judgeWord wordGrounds
-word-ordered limit w = ordered-first (ordered-if (eqb (length w) 0) WordEmpty) (ordered-first (ordered-if (ltb limit (length w)) WordLong) (letters-ordered w))
+word-ordered = judged-ordered withApostrophes
+
+pub letters-ordered : (limit : ℕ) (w : List ℕ) → Ordered (judgeLetters limit w) (letterGrounds limit w)
+letters-ordered = judged-ordered lettersAlone

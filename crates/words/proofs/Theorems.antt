@@ -4,16 +4,16 @@ use mathlib.Core.Bool.{Bool, true, false, cond, _&&_, _||_}
 use mathlib.Core.List.{List, [], _∷_, map}
 use mathlib.Core.Path.{_≡_, refl, sym, _∙_, ap}
 use native.Mathlib.Omega.{arith}
-use borrow.Author.Tests.{le-leb, lt-leb}
-use lib.Dec.{leb, ltb, eqb}
+use borrow.Author.Tests.{le-leb, lt-leb, ne-eqb}
+use lib.Dec.{leb, eqb}
 use lib.ListN.{length}
-use Rattle.base.specs.Grounds.{first, refuseIf}
+use Rattle.base.specs.Grounds.{first}
 use Rattle.base.specs.declared.Check.{Check}
 use Rattle.base.specs.declared.Check.the-variants.{Fine, Refused}
-use Rattle.base.specs.declared.Ground.the-variants.{WordEmpty, WordLong, NotLetter}
+use Rattle.base.specs.declared.Ground.the-variants.{NotLetter}
 use Rattle.base.proofs.Lists.{never}
-use Rattle.words.specs.Symbols.{small, capital, letter, lower, symbolOf}
-use Rattle.words.specs.Words.{allLetters, judgeWord, wordSymbols}
+use Rattle.words.specs.Symbols.{apostrophe, small, capital, letter, lower, symbolOf}
+use Rattle.words.specs.Words.{startsLetter, isBetween, withApostrophes, allFit, judgeLength, judgeBy, judgeWord, wordSymbols}
 use Rattle.words.proofs.Laws.{small-low, small-high, range-low, range-high}
 
 small-not-capital : (b : ℕ) → small b ≡ true → capital b ≡ false
@@ -52,24 +52,42 @@ letter-bits b e = go (small b) refl (capital b) refl e
     go false p true q t = rw (capital-lowered b q) (omega (arith, range-low 65 90 b (capital-range b q), range-high 65 90 b (capital-range b q)))
     go false p false q t = never t
 
--- the judgement as one of the word in small letters
-smallOnly : ℕ → List ℕ → Check
-smallOnly at [] = Fine
-smallOnly at (b ∷ t) = cond (small b) (smallOnly (at + 1) t) (Refused (NotLetter at))
+-- no capital's small letter is an apostrophe
+apostrophe-lowered : (b : ℕ) → eqb b apostrophe ≡ eqb (lower b) apostrophe
+unfolding lower
+apostrophe-lowered b = go (capital b) refl
+  where
+    go : (k : Bool) → capital b ≡ k → eqb b apostrophe ≡ eqb (cond k (b + 32) b) apostrophe
+    go true q =
+        let low = range-low 65 90 b (capital-range b q) in rw (ne-eqb b apostrophe (λ z. omega (arith, z, low)), ne-eqb (b + 32) apostrophe (λ z. omega (arith, z, low)))
+    go false q = refl
 
-letters-lowered : (at : ℕ) (w : List ℕ) → allLetters at w ≡ smallOnly at (map lower w)
-unfolding allLetters smallOnly
-letters-lowered at [] = refl
-letters-lowered at (b ∷ t) = rw (letter-lower b, letters-lowered (at + 1) t)
+-- the judgement as one of the word in small letters
+startsSmall : List ℕ → Bool
+startsSmall [] = false
+startsSmall (b ∷ t) = small b
+
+smallFit : ℕ → Bool → List ℕ → Check
+smallFit at after [] = Fine
+smallFit at after (b ∷ t) = cond (small b || (eqb b apostrophe && (after && startsSmall t))) (smallFit (at + 1) (small b) t) (Refused (NotLetter at))
+
+starts-lowered : (w : List ℕ) → startsLetter w ≡ startsSmall (map lower w)
+unfolding startsLetter startsSmall
+starts-lowered [] = refl
+starts-lowered (b ∷ t) = letter-lower b
+
+fit-lowered : (at : ℕ) (after : Bool) (w : List ℕ) → allFit withApostrophes at after w ≡ smallFit at after (map lower w)
+unfolding allFit withApostrophes isBetween smallFit
+fit-lowered at after [] = refl
+fit-lowered at after (b ∷ t) = rw (letter-lower b, apostrophe-lowered b, starts-lowered t, fit-lowered (at + 1) (small (lower b)) t)
 
 length-lowered : (w : List ℕ) → length w ≡ length (map lower w)
 length-lowered [] = refl
 length-lowered (b ∷ t) = ap suc (length-lowered t)
 
-judged-lowered : (limit : ℕ) (w : List ℕ)
-    → judgeWord limit w ≡ first (refuseIf (eqb (length (map lower w)) 0) WordEmpty) (first (refuseIf (ltb limit (length (map lower w))) WordLong) (smallOnly 0 (map lower w)))
-unfolding judgeWord
-judged-lowered limit w = rw (letters-lowered 0 w, ← length-lowered w)
+judged-lowered : (limit : ℕ) (w : List ℕ) → judgeWord limit w ≡ first (judgeLength limit (length (map lower w))) (smallFit 0 false (map lower w))
+unfolding judgeBy
+judged-lowered limit w = rw (fit-lowered 0 false w, ← length-lowered w)
 
 symbols-lowered : (w : List ℕ) → wordSymbols w ≡ map symbolOf (map lower w)
 unfolding wordSymbols

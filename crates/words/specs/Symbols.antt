@@ -3,7 +3,7 @@ use Prim.Native.Nat.{ℕ, _+_, _-_}
 use mathlib.Core.Bool.{Bool, cond, _&&_, _||_}
 use mathlib.Core.List.{List, [], _∷_}
 use lib.Dec.{leb, eqb}
-use Rattle.base.specs.Limits.{edge}
+use Rattle.base.specs.Limits.{edge, apostropheSymbol}
 
 -- The bytes that the texts name.
 abbrev pub lineFeed : ℕ
@@ -14,6 +14,9 @@ hyphen = 45
 
 abbrev pub dot : ℕ
 dot = 46
+
+abbrev pub apostrophe : ℕ
+apostrophe = 39
 
 -- a small letter, a to z
 unfoldable pub small : ℕ → Bool
@@ -35,9 +38,10 @@ lower b = cond (capital b) (b + 32) b
 unfoldable pub digit : ℕ → Bool
 digit b = leb 49 b && leb b 57
 
--- Symbols: "a to z are 1 to 26. The word's edge, written ".", is 27." A byte that is no symbol gives 0.
+-- Symbols: "a to z are 1 to 26. The word's edge, written ".", is 27." CR 5: "An apostrophe (byte 39) .. is symbol 28". A byte that
+-- is no symbol gives 0.
 unfoldable pub symbolOf : ℕ → ℕ
-symbolOf b = cond (small b) (b - 96) (cond (eqb b dot) edge 0)
+symbolOf b = cond (small b) (b - 96) (cond (eqb b dot) edge (cond (eqb b apostrophe) apostropheSymbol 0))
 
 -- Order: a line's "symbols without digits and hyphens".
 unfoldable pub symbolsOf : List ℕ → List ℕ

@@ -4,7 +4,7 @@ use Prim.Native.Nat.{ℕ}
 use mathlib.Core.Path.{sym, subst}
 use lib.ListN.{length}
 use Rattle.base.specs.Limits.{wordLimit1980}
-use Rattle.words.proofs.Laws.{word-fits}
+use Rattle.words.proofs.Laws.{letters-fit}
 use Rattle.sheet1980.specs.Sheet.{Sheet}
 use Rattle.machine1980.proofs.Written.{written}
 use Rattle.machine1980.proofs.Laws as law
@@ -16,12 +16,12 @@ run-machine-requires c κs =
     let k = c .before .before .before .before .before .before .before .before in
     let word = k .args .word .now in (
       k .pre .1,
-      word-fits wordLimit1980 word (k .pre .0),
+      letters-fit wordLimit1980 word (k .pre .0),
       subst (λ (s : List ℕ). Sheet (length word) s) (sym (c .before .before .before .write-word .ensures)) (written wordLimit1980 word (k .pre .0)),
     )
 
 put-breaks-requires : tie.Need-put-breaks-requires
-put-breaks-requires c κs = let k = c .before .before .before .before .before .before .before .before .before .before .before .before .before .before .before .before in (word-fits wordLimit1980 (k .args .word .now) (k .pre .0), k .pre .3)
+put-breaks-requires c κs = let k = c .before .before .before .before .before .before .before .before .before .before .before .before .before .before .before .before in (letters-fit wordLimit1980 (k .args .word .now) (k .pre .0), k .pre .3)
 
 returns : tie.Need-returns
 returns c =

@@ -7,7 +7,7 @@ use native.Mathlib.Omega.{arith}
 use lib.ListN.{length, take, length-set}
 use Rattle.base.specs.Limits.{edge}
 use Rattle.words.specs.Words.{wordSymbols}
-use Rattle.words.proofs.Laws.{word-letter}
+use Rattle.words.proofs.Laws.{word-byte}
 use Rattle.walk.proofs.Laws.{row-start, row-turn, row-end, row-kept}
 use Rattle.walk.proofs.fill_row.Statement.{statement}
 use Rattle.walk.proofs.fill_row.Tie as tie
@@ -21,11 +21,11 @@ abbrev μ-loop : tie.MeasureT-loop
 loop-holds : tie.Need-loop-holds Inv-loop μ-loop
 loop-holds c = (search needs, search needs, simp length-set (search needs), row-start (c .before .before .args .word .now) (c .before .before .args .row .now) (omega (arith, c .before .before .pre .1)))
 
-letter-symbol-requires : tie.Need-letter-symbol-requires Inv-loop μ-loop
-letter-symbol-requires c κs = word-letter _ _ (c .before .before .before .before .before .pre .0) _ (c .before .loop-test .taken)
+word-symbol-requires : tie.Need-word-symbol-requires Inv-loop μ-loop
+word-symbol-requires c κs = word-byte _ _ (c .before .before .before .before .before .pre .0) _ (c .before .loop-test .taken)
 
 loop-again : tie.Need-loop-again Inv-loop μ-loop
-loop-again c = (search needs, simp length-set (simp length-set at (c .before .before .before .loop .inv .1)), search needs, row-turn (c .before .before .before .before .before .before .args .word .now) (c .before .before .before .loop .row) (c .before .before .before .loop .i) (c .before .before .loop-test .taken) (omega (arith, c .before .before .before .loop .inv .1, c .before .before .before .loop .inv .2, c .before .before .loop-test .taken)) (c .before .before .before .loop .inv .3) (c .letter-symbol .ensures))
+loop-again c = (search needs, simp length-set (simp length-set at (c .before .before .before .loop .inv .1)), search needs, row-turn (c .before .before .before .before .before .before .args .word .now) (c .before .before .before .loop .row) (c .before .before .before .loop .i) (c .before .before .loop-test .taken) (omega (arith, c .before .before .before .loop .inv .1, c .before .before .before .loop .inv .2, c .before .before .loop-test .taken)) (c .before .before .before .loop .inv .3) (c .word-symbol .ensures))
 
 same-length : tie.Need-same-length Inv-loop μ-loop
 same-length c = row-kept (c .before .before .before .before .args .row .now) (c .before .loop .row) (c .before .loop .i + 1) edge (c .before .loop .inv .1)
@@ -42,7 +42,7 @@ fill-row-spec =
     (λ c. search needs)
     loop-holds
     (λ c. search needs)
-    letter-symbol-requires
+    word-symbol-requires
     (λ c. search needs)
     (λ c. search needs)
     (λ c. search needs)

@@ -1,39 +1,38 @@
--- The bytes before i are letters, so the judgement is that of the rest; what is left of the word falls.
+-- The bytes before i may stand in a word, so the judgement is that of the rest, behind a letter or not; what is left of the word falls.
 use borrow.Author.Needs.{needs}
 use Prim.Native.Nat.{_≤_, _-_}
 use mathlib.Core.Path.{_≡_, sym, _∙_}
-use borrow.Author.Tests.{not-true, not-false}
 use lib.ListN.{length, drop}
-use Rattle.words.specs.Words.{judgeWord, allLetters}
 use Rattle.base.proofs.Grounds.{said-by}
+use Rattle.words.specs.Words.{withApostrophes, allFit, judgeWord}
 use Rattle.words.proofs.Order.{word-ordered}
-use Rattle.words.proofs.Laws.{word-empty, word-long, word-scan, letters-pass, letters-stop, letters-end}
+use Rattle.words.proofs.Laws.{word-refused, word-scan, word-letter, word-between, word-stop, fit-end}
 use Rattle.words.proofs.judge_word.Statement.{statement}
 use Rattle.words.proofs.judge_word.Tie as tie
 
 abbrev Inv-loop : tie.InvT-loop
-Inv-loop word limit i₀ i = (i ≤ length word) × (judgeWord limit word ≡ allLetters i (drop i word))
+Inv-loop word limit after₀ i₀ after i = (i ≤ length word) × (judgeWord limit word ≡ allFit withApostrophes i after (drop i word))
 
 abbrev μ-loop : tie.MeasureT-loop
-μ-loop word limit i₀ i = length word - i
+μ-loop word limit after₀ i₀ after i = length word - i
 
 returns : tie.Need-returns Inv-loop μ-loop
-returns c = said-by (word-ordered _ _) (word-empty _ _ (c .if1 .taken))
-
-returns-2 : tie.Need-returns-2 Inv-loop μ-loop
-returns-2 c = said-by (word-ordered _ _) (word-long _ _ (c .before .if1 .left) (c .if2 .taken))
+returns c = said-by (word-ordered _ _) (word-refused withApostrophes _ _ (c .before .before .before .judge-length .ensures) (c .before .length .given .1))
 
 loop-holds : tie.Need-loop-holds Inv-loop μ-loop
-loop-holds c = (search needs, search word-scan)
-
-returns-3 : tie.Need-returns-3 Inv-loop μ-loop
-returns-3 c = said-by (word-ordered _ _) (sym (c .before .before .before .before .loop .inv .1 ∙ letters-stop _ _ (c .before .before .before .loop-test .taken) (sym (c .before .is-letter .ensures) ∙ not-true _ (c .if3 .taken))))
+loop-holds c = (search needs, word-scan withApostrophes _ _ (c .before .before .judge-length .ensures) (c .enum-told .given .1))
 
 loop-again : tie.Need-loop-again Inv-loop μ-loop
-loop-again c = (search needs, c .before .before .before .before .loop .inv .1 ∙ letters-pass _ _ (c .before .before .before .loop-test .taken) (sym (c .before .is-letter .ensures) ∙ not-false _ (c .if3 .left)))
+loop-again c = (search needs, c .before .before .before .before .loop .inv .1 ∙ word-letter _ _ (c .before .before .before .loop-test .taken) _ (sym (c .before .is-letter .ensures) ∙ c .if1 .taken))
 
-returns-4 : tie.Need-returns-4 Inv-loop μ-loop
-returns-4 c = said-by (word-ordered _ _) (sym (c .before .loop .inv .1 ∙ letters-end _ _ (c .loop-test .left)))
+returns-2 : tie.Need-returns-2 Inv-loop μ-loop
+returns-2 c = said-by (word-ordered _ _) (sym (c .before .before .before .before .before .before .loop .inv .1 ∙ word-stop _ _ (c .before .before .before .before .before .loop-test .taken) _ (sym (c .before .before .before .is-letter .ensures) ∙ c .before .before .if1 .left) (c .before .is-between .ensures) (c .if2 .taken)))
+
+loop-again-2 : tie.Need-loop-again-2 Inv-loop μ-loop
+loop-again-2 c = (search needs, c .before .before .before .before .before .before .loop .inv .1 ∙ word-between _ _ (c .before .before .before .before .before .loop-test .taken) _ (sym (c .before .before .before .is-letter .ensures) ∙ c .before .before .if1 .left) (c .before .is-between .ensures) (c .if2 .left))
+
+returns-3 : tie.Need-returns-3 Inv-loop μ-loop
+returns-3 c = said-by (word-ordered _ _) (sym (c .before .loop .inv .1 ∙ fit-end withApostrophes _ _ _ (c .loop-test .left)))
 
 pub judge-word-spec : {M : Type 1} → statement M
 judge-word-spec =
@@ -41,13 +40,19 @@ judge-word-spec =
     (tie.spec
     Inv-loop
     μ-loop
+    (λ c κs. search needs)
+    (λ c. search needs)
     returns
-    returns-2
+    (λ c. search needs)
     loop-holds
     (λ c. search needs)
     (λ c κs. search needs)
-    returns-3
     (λ c. search needs)
     (λ c. search needs)
     loop-again
-    returns-4)
+    (λ c κs. search needs)
+    returns-2
+    (λ c. search needs)
+    (λ c. search needs)
+    loop-again-2
+    returns-3)
