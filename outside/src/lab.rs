@@ -57,7 +57,10 @@ fn show_gauge(gauge: &Gauge) -> String {
         let width = gauge.letters[from].to_bits();
         let rest = gauge.letters[from..].iter();
         let end = from + rest.take_while(|other| other.to_bits() == width).count();
-        let letter = |place: usize| (b'a' + place as u8) as char;
+        let letter = |place: usize| match place as u8 {
+            reference::LETTERS => '\'',
+            place => (b'a' + place) as char,
+        };
         text += &match end - from {
             1 => format!(" {}", letter(from)),
             _ => format!(" {}..{}", letter(from), letter(end - 1)),

@@ -1,7 +1,7 @@
 //! Compares the library with the reference in many named tests.
 //!
 //! Usage: outside [--seed S] [--scale K] [--only NAME] [--round R]
-//!                [--words FILE] [--threads 1|2] [--list]
+//!                [--words FILE] [--patterns FILE] [--threads 1|2] [--list]
 
 mod faults;
 mod run;

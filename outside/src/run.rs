@@ -24,6 +24,8 @@ pub struct Options {
     pub round: Option<u64>,
     /// A word list, as read.
     pub words: Option<Vec<u8>>,
+    /// Somebody's pattern files, as read.
+    pub patterns: Vec<Vec<u8>>,
     /// Workers, 1 or 2.
     pub threads: usize,
     /// Whether only names are wanted.
@@ -31,12 +33,17 @@ pub struct Options {
 }
 
 const USAGE: &str = "usage: outside [--seed S] [--scale K] [--only NAME] [--round R] \
-                     [--words FILE] [--threads 1|2] [--list]";
+                     [--words FILE] [--patterns FILE] [--threads 1|2] [--list]";
 
 /// Reads a number or says what is wrong.
 fn number<T: std::str::FromStr>(name: &str, text: &str) -> Result<T, String> {
     text.parse()
         .map_err(|_| format!("{} isn't a number for {}\n{}", text, name, USAGE))
+}
+
+/// Reads a file or says what is wrong.
+fn file(name: &str) -> Result<Vec<u8>, String> {
+    std::fs::read(name).map_err(|why| format!("{}: {}", name, why))
 }
 
 impl Options {
@@ -48,6 +55,7 @@ impl Options {
             only: None,
             round: None,
             words: None,
+            patterns: Vec::new(),
             threads: 2,
             list: false,
         };
@@ -65,10 +73,8 @@ impl Options {
                 "--round" => options.round = Some(number(&name, &value)?),
                 "--threads" => options.threads = number::<usize>(&name, &value)?.clamp(1, 2),
                 "--only" => options.only = Some(value),
-                "--words" => {
-                    let read = std::fs::read(&value);
-                    options.words = Some(read.map_err(|why| format!("{}: {}", value, why))?);
-                }
+                "--words" => options.words = Some(file(&value)?),
+                "--patterns" => options.patterns.push(file(&value)?),
                 _ => return Err(format!("{} isn't known\n{}", name, USAGE)),
             }
         }
@@ -113,6 +119,11 @@ impl<'a> Run<'a> {
     /// The word list given, if any.
     pub fn words(&self) -> &'a [u8] {
         self.options.words.as_deref().unwrap_or(b"")
+    }
+
+    /// The pattern files given.
+    pub fn patterns(&self) -> &'a [Vec<u8>] {
+        &self.options.patterns
     }
 
     /// Whether at least the usual rounds are run, so that a count over all of

@@ -20,14 +20,14 @@ use Rattle.words.specs.Words.{Rule, lettersAlone, startsLetter, isBetwee
 use Rattle.words.proofs.Laws.{length-fine, judged-bytes, word-some, word-fits}
 
 -- Does a letter stand right before place i, `after` telling of place 0?
-abbrev letterBefore : Bool → List ℕ → ℕ → Bool
-letterBefore after w zero = after
-letterBefore after w (suc k) = letter (getD w k 0)
+abbrev behindLetter : Bool → List ℕ → ℕ → Bool
+behindLetter after w zero = after
+behindLetter after w (suc k) = letter (getD w k 0)
 
 abbrev fitsAt : Rule → Bool → List ℕ → ℕ → Bool
-fitsAt rule after w i = rule (letterBefore after w i) (getD w i 0) (drop (suc i) w)
+fitsAt rule after w i = rule (behindLetter after w i) (getD w i 0) (drop (suc i) w)
 
-before-on : (after : Bool) (b : ℕ) (t : List ℕ) (k : ℕ) → letterBefore (letter b) t k ≡ letterBefore after (b ∷ t) (suc k)
+before-on : (after : Bool) (b : ℕ) (t : List ℕ) (k : ℕ) → behindLetter (letter b) t k ≡ behindLetter after (b ∷ t) (suc k)
 before-on after b t zero = refl
 before-on after b t (suc k) = refl
 
@@ -89,14 +89,14 @@ fits-stand : (w : List ℕ) (i : ℕ) → fitsAt withApostrophes false w i ≡ t
 unfolding withApostrophes isBetween
 fits-stand w i e = go (letter (getD w i 0)) refl e
   where
-    between : (i : ℕ) → (eqb (getD w i 0) apostrophe && (letterBefore false w i && startsLetter (drop (suc i) w))) ≡ true → MayStand w i
+    between : (i : ℕ) → (eqb (getD w i 0) apostrophe && (behindLetter false w i && startsLetter (drop (suc i) w))) ≡ true → MayStand w i
     between zero e = never (both (eqb (getD w 0 0) apostrophe) false e .1)
     between (suc k) e =
         let a = both (eqb (getD w (suc k) 0) apostrophe) (letter (getD w k 0) && startsLetter (drop (suc (suc k)) w)) e in
         let b = both (letter (getD w k 0)) (startsLetter (drop (suc (suc k)) w)) (a .1) in
         inr (eqb-true (getD w (suc k) 0) apostrophe (a .0), omega arith, rw (one-less k) (b .0), rw add-one (sym (starts-at w (suc (suc k))) ∙ b .1))
 
-    go : (z : Bool) → letter (getD w i 0) ≡ z → (z || (eqb (getD w i 0) apostrophe && (letterBefore false w i && startsLetter (drop (suc i) w)))) ≡ true → MayStand w i
+    go : (z : Bool) → letter (getD w i 0) ≡ z → (z || (eqb (getD w i 0) apostrophe && (behindLetter false w i && startsLetter (drop (suc i) w)))) ≡ true → MayStand w i
     go true p h = inl p
     go false p h = between i h
 

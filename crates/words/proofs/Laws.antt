@@ -3,6 +3,7 @@ use Prim.Native.Nat.{ℕ, zero, suc, _+_, _-_, _≤_, _<_}
 use mathlib.Core.Bool.{Bool, true, false, cond, not, _&&_, _||_, or-false}
 use mathlib.Core.List.{List, [], _∷_, _++_}
 use mathlib.Core.Path.{_≡_, refl, sym, _∙_, ap}
+use native.Mathlib.Numerals.{add-one}
 use native.Mathlib.Omega.{arith}
 use borrow.Author.Tests.{lt-leb, le-leb, lt-ltb, le-ltb, eq-eqb, ne-eqb, leb-true, ltb-false, eqb-false, not-true, not-false}
 use lib.Dec.{leb, ltb, eqb}
@@ -16,7 +17,7 @@ use Rattle.base.specs.Grounds.{refuseIf}
 use Rattle.base.proofs.Grounds.{both-fine, not-refused}
 use Rattle.base.proofs.Lists.{clash, cons-at, never}
 use Rattle.words.specs.Symbols.{small, capital, letter, lower, digit, symbolOf, symbolsOf, dot, apostrophe}
-use Rattle.words.specs.Words.{Rule, lettersAlone, startsLetter, isBetween, withApostrophes, allFit, judgeLength, judgeBy, judgeWord, judgeLetters, wordByte, wordSymbols, rowOf}
+use Rattle.words.specs.Words.{Rule, lettersAlone, startsLetter, isBetween, withApostrophes, allFit, judgeLength, judgeBy, judgeWord, judgeLetters, letterBefore, wordByte, wordSymbols, rowOf}
 
 -- a range of bytes, from below and from above
 pub below-range : (lo hi b : ℕ) → b < lo → false ≡ (leb lo b && leb b hi)
@@ -137,37 +138,65 @@ module _ (w : List ℕ) (i : ℕ) (h : i < length w) where
   letters-stop e = fit-stop lettersAlone false w i h e
 
 -- letters, and apostrophes between two of them
-module _ (w : List ℕ) (i : ℕ) (after : Bool) where
-  pub between-other : (getD w i 0 ≡ apostrophe → ⊥) → false ≡ isBetween after (getD w i 0) (drop (i + 1) w)
+before-at : (w : List ℕ) (i : ℕ) → letterBefore w (i + 1) ≡ letter (getD w i 0)
+unfolding letterBefore
+before-at w i = rw add-one
+
+before-not : (w : List ℕ) (i : ℕ) → i ≡ 0 → letterBefore w i ≡ false
+unfolding letterBefore
+before-not w i z = rw z
+
+before-in : (w : List ℕ) (i : ℕ) → (i ≡ 0 → ⊥) → letterBefore w i ≡ letter (getD w (i - 1) 0)
+unfolding letterBefore
+before-in w zero z = absurd (z refl)
+before-in w (suc k) z = let e : suc k - 1 ≡ k = omega arith in rw e
+
+module _ (w : List ℕ) (i : ℕ) where
+  pub between-other : (getD w i 0 ≡ apostrophe → ⊥) → false ≡ isBetween (letterBefore w i) (getD w i 0) (drop (i + 1) w)
   unfolding isBetween
   between-other q = rw (ne-eqb (getD w i 0) apostrophe q)
 
-  pub between-first : getD w i 0 ≡ apostrophe → not after ≡ true → false ≡ isBetween after (getD w i 0) (drop (i + 1) w)
-  unfolding isBetween
-  between-first q a = rw (eq-eqb (getD w i 0) apostrophe q, not-true after a)
+  module _ (q : getD w i 0 ≡ apostrophe) where
+    pub between-first : i ≡ 0 → false ≡ isBetween (letterBefore w i) (getD w i 0) (drop (i + 1) w)
+    unfolding isBetween
+    between-first z = rw (eq-eqb (getD w i 0) apostrophe q, before-not w i z)
 
-  module _ (q : getD w i 0 ≡ apostrophe) (a : not after ≡ false) where
-    pub between-last : length w ≤ i + 1 → false ≡ isBetween after (getD w i 0) (drop (i + 1) w)
-    unfolding isBetween startsLetter
-    between-last h = rw (eq-eqb (getD w i 0) apostrophe q, not-false after a, drop-of-length-le w h)
+    module _ (z : i ≡ 0 → ⊥) {r : Bool} (l : r ≡ letter (getD w (i - 1) 0)) where
+      pub between-behind : not r ≡ true → false ≡ isBetween (letterBefore w i) (getD w i 0) (drop (i + 1) w)
+      unfolding isBetween
+      between-behind n = rw (eq-eqb (getD w i 0) apostrophe q, before-in w i z ∙ sym l ∙ not-true r n)
 
-    pub between-inside : i + 1 < length w → letter (getD w (i + 1) 0) ≡ isBetween after (getD w i 0) (drop (i + 1) w)
-    unfolding isBetween startsLetter
-    between-inside h = rw (eq-eqb (getD w i 0) apostrophe q, not-false after a, cons-at w (i + 1) h)
+      module _ (n : not r ≡ false) where
+        pub between-last : length w ≤ i + 1 → false ≡ isBetween (letterBefore w i) (getD w i 0) (drop (i + 1) w)
+        unfolding isBetween startsLetter
+        between-last h = rw (eq-eqb (getD w i 0) apostrophe q, before-in w i z ∙ sym l ∙ not-false r n, drop-of-length-le w h)
 
-module _ (w : List ℕ) (i : ℕ) (h : i < length w) (after : Bool) where
-  pub word-letter : letter (getD w i 0) ≡ true → allFit withApostrophes i after (drop i w) ≡ allFit withApostrophes (i + 1) true (drop (i + 1) w)
+        pub between-inside : i + 1 < length w → letter (getD w (i + 1) 0) ≡ isBetween (letterBefore w i) (getD w i 0) (drop (i + 1) w)
+        unfolding isBetween startsLetter
+        between-inside h = rw (eq-eqb (getD w i 0) apostrophe q, before-in w i z ∙ sym l ∙ not-false r n, cons-at w (i + 1) h)
+
+pub word-start : (w : List ℕ) → allFit withApostrophes 0 false w ≡ allFit withApostrophes 0 (letterBefore w 0) (drop 0 w)
+unfolding letterBefore
+word-start w = refl
+
+module _ (w : List ℕ) (i : ℕ) (h : i < length w) where
+  word-on : withApostrophes (letterBefore w i) (getD w i 0) (drop (i + 1) w) ≡ true
+      → allFit withApostrophes i (letterBefore w i) (drop i w) ≡ allFit withApostrophes (i + 1) (letterBefore w (i + 1)) (drop (i + 1) w)
+  word-on e =
+      fit-on withApostrophes (letterBefore w i) w i h e ∙ ap (λ (z : Bool). allFit withApostrophes (i + 1) z (drop (i + 1) w)) (sym (before-at w i))
+
+  pub word-letter : letter (getD w i 0) ≡ true → allFit withApostrophes i (letterBefore w i) (drop i w) ≡ allFit withApostrophes (i + 1) (letterBefore w (i + 1)) (drop (i + 1) w)
   unfolding withApostrophes
-  word-letter e = fit-on withApostrophes after w i h (rw e) ∙ ap (λ (z : Bool). allFit withApostrophes (i + 1) z (drop (i + 1) w)) e
+  word-letter e = word-on (rw e)
 
-  module _ (e : letter (getD w i 0) ≡ false) {r : Bool} (p : r ≡ isBetween after (getD w i 0) (drop (i + 1) w)) where
-    pub word-between : not r ≡ false → allFit withApostrophes i after (drop i w) ≡ allFit withApostrophes (i + 1) false (drop (i + 1) w)
+  module _ (e : letter (getD w i 0) ≡ false) {r : Bool} (p : r ≡ isBetween (letterBefore w i) (getD w i 0) (drop (i + 1) w)) where
+    pub word-between : not r ≡ false → allFit withApostrophes i (letterBefore w i) (drop i w) ≡ allFit withApostrophes (i + 1) (letterBefore w (i + 1)) (drop (i + 1) w)
     unfolding withApostrophes
-    word-between q = fit-on withApostrophes after w i h (rw (e, sym p ∙ not-false r q)) ∙ ap (λ (z : Bool). allFit withApostrophes (i + 1) z (drop (i + 1) w)) e
+    word-between q = word-on (rw (e, sym p ∙ not-false r q))
 
-    pub word-stop : not r ≡ true → allFit withApostrophes i after (drop i w) ≡ Refused (NotLetter i)
+    pub word-stop : not r ≡ true → allFit withApostrophes i (letterBefore w i) (drop i w) ≡ Refused (NotLetter i)
     unfolding withApostrophes
-    word-stop q = fit-stop withApostrophes after w i h (rw (e, sym p ∙ not-true r q))
+    word-stop q = fit-stop withApostrophes (letterBefore w i) w i h (rw (e, sym p ∙ not-true r q))
 
 -- what a judged word is: not empty, short, and each byte as its rule has it
 fits-each : (rule : Rule) (test : ℕ → Bool) → ((after : Bool) (b : ℕ) (t : List ℕ) → rule after b t ≡ true → test b ≡ true)

@@ -1,5 +1,5 @@
 -- Words: their judgement, their symbols, the row with its edges, and the inner gaps.
-use Prim.Native.Nat.{ℕ, suc, _+_, _-_, _≤_}
+use Prim.Native.Nat.{ℕ, zero, suc, _+_, _-_, _≤_}
 use mathlib.Core.Bool.{Bool, true, false, cond, _&&_, _||_}
 use mathlib.Core.List.{List, [], _∷_, _++_, map}
 use mathlib.Core.Logic.{_⊎_}
@@ -56,6 +56,11 @@ letterGrounds limit w = groundsBy lettersAlone limit w
 unfoldable pub allFit : Rule → ℕ → Bool → List ℕ → Check
 allFit rule at after [] = Fine
 allFit rule at after (b ∷ t) = cond (rule after b t) (allFit rule (at + 1) (letter b) t) (Refused (NotLetter at))
+
+-- Does a letter stand right before place i of a word?
+unfoldable pub letterBefore : List ℕ → ℕ → Bool
+letterBefore w zero = false
+letterBefore w (suc k) = letter (getD w k 0)
 
 -- grounds 2 and 4
 unfoldable pub judgeLength : ℕ → ℕ → Check

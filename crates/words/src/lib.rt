@@ -8,7 +8,7 @@ ghost use Prim.Native.Nat.{_+_, _<_};
 ghost use lib.ListN.{length, getD, drop};
 ghost use Rattle.base.specs.Grounds.{Finds, says, firstOf};
 ghost use Rattle.words.specs.Symbols.{small, capital, letter, lower, digit, symbolOf};
-ghost use Rattle.words.specs.Words.{isBetween, wordGrounds, letterGrounds, judgeLength, wordByte};
+ghost use Rattle.words.specs.Words.{isBetween, letterBefore, wordGrounds, letterGrounds, judgeLength, wordByte};
 
 // The bytes that the texts name (specs/Symbols.antt: lineFeed, hyphen, dot, apostrophe).
 pub const LINE_FEED: u8 = 10;
@@ -134,15 +134,18 @@ pub fn judge_letters(word: &[u8], limit: usize) -> Check
     Check::Fine
 }
 
-// A byte of a word that is no letter, at i: is it an apostrophe between two letters? `after`: a letter stands right before it.
-fn is_between(after: bool, word: &[u8], i: usize) -> bool
+// Is the byte at i an apostrophe between two letters? Both neighbours are looked at only here, so that letters pass with one test each.
+fn is_between(word: &[u8], i: usize) -> bool
     requires { ⌜ i < length (now word) ⌝ }
-    ensures { λ r. ⌜ r ≡ isBetween after (getD (now (word .entry)) i 0) (drop (i + 1) (now (word .entry))) ⌝ }
+    ensures { λ r. ⌜ r ≡ isBetween (letterBefore (now (word .entry)) i) (getD (now (word .entry)) i 0) (drop (i + 1) (now (word .entry))) ⌝ }
 {
     if word[i] != APOSTROPHE {
         return false;
     }
-    if !after {
+    if i == 0 {
+        return false; // nothing stands before it
+    }
+    if !is_letter(word[i - 1]) {
         return false;
     }
     if word.len() <= i + 1 {
@@ -159,17 +162,14 @@ pub fn judge_word(word: &[u8], limit: usize) -> Check
     if let Check::Refused(g) = length {
         return Check::Refused(g);
     }
-    let mut after = false;
     let mut i = 0;
     while i < word.len() {
         if is_letter(word[i]) {
-            after = true;
             i += 1;
         } else {
-            if !is_between(after, word, i) {
+            if !is_between(word, i) {
                 return Check::Refused(Ground::NotLetter(i)); // at its own place
             }
-            after = false;
             i += 1;
         }
     }

@@ -230,7 +230,7 @@ fn walk_suffix(rng: &mut Rng) -> Vec<u8> {
 
 /// Random letters, few or many of them.
 pub fn random(rng: &mut Rng) -> Vec<u8> {
-    let alphabet = words::alphabet(rng);
+    let alphabet = words::letters(rng);
     let length = words::length(rng);
     let word = words::good(rng, &alphabet, length);
     finish(rng, word)

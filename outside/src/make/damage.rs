@@ -2,7 +2,7 @@
 
 use super::layout::entry_place;
 use crate::reference::table::{Table, CELL, HEAD};
-use crate::reference::{EDGE, ENTRY_LIMIT};
+use crate::reference::{APOSTROPHE, ENTRY_LIMIT, SYMBOLS};
 use crate::rng::Rng;
 use std::collections::BTreeSet;
 
@@ -27,7 +27,7 @@ pub fn reached(bytes: &[u8]) -> Reached {
         if !bases.insert(base) {
             continue;
         }
-        for symbol in 1..=EDGE {
+        for symbol in 1..=SYMBOLS {
             if let Some(cell) = table.matching(base, symbol) {
                 cells.insert(base + symbol as usize);
                 entries.extend(chain_of(&table, bytes, cell.output));
@@ -81,7 +81,7 @@ fn number(rng: &mut Rng, near: usize) -> usize {
         1 => near,
         2 => near + 1,
         3 => *rng.pick(&[
-            0, 1, 255, 256, 32_767, 32_768, 65_509, 65_510, 65_534, 65_535,
+            0, 1, 255, 256, 32_767, 32_768, 65_508, 65_509, 65_510, 65_534, 65_535,
         ]),
         4 => rng.bits() as u16 as usize,
         _ => rng.below(40),
@@ -119,9 +119,9 @@ fn damage_cell(rng: &mut Rng, bytes: &mut [u8], cells: usize, entries: usize, re
         any_of(rng, &reached.cells)
     };
     let place = HEAD + CELL * cell;
-    match rng.below(10) {
+    match rng.below(11) {
         0 => bytes[place] = *rng.pick(&[0, 1, 3, 4, 255]),
-        1 => bytes[place + 1] = *rng.pick(&[0, 1, 26, 27, 28, 255]),
+        1 => bytes[place + 1] = *rng.pick(&[0, 1, 26, 27, 28, 29, 255]),
         2 => put(bytes, place + 2, 0),
         3 => {
             let link = number(rng, cells);
@@ -137,15 +137,31 @@ fn damage_cell(rng: &mut Rng, bytes: &mut [u8], cells: usize, entries: usize, re
             let output = number(rng, entries);
             put(bytes, place + 4, output);
         }
-        8 => extra_path(rng, bytes, cells, entries, reached),
+        8 => {
+            let base = any_of(rng, &reached.bases);
+            let symbol = rng.range(1, SYMBOLS as usize);
+            extra_path(rng, bytes, (cells, entries), base, symbol);
+        }
+        9 => {
+            let symbol = APOSTROPHE as usize;
+            let free = |base: &usize| !reached.cells.contains(&(base + symbol));
+            let bases: Vec<usize> = reached.bases.iter().copied().filter(free).collect();
+            let base = any_of(rng, &bases);
+            extra_path(rng, bytes, (cells, entries), base, symbol);
+        }
         _ => swap_cells(rng, bytes, cells, cell),
     }
 }
 
-/// Lets a cell match from a base in use, so that a path comes in addition.
-fn extra_path(rng: &mut Rng, bytes: &mut [u8], cells: usize, entries: usize, reached: &Reached) {
-    let base = any_of(rng, &reached.bases);
-    let symbol = rng.range(1, EDGE as usize);
+/// Lets a cell match from a base in use, so that a path comes in addition, if
+/// the table has this cell.
+fn extra_path(
+    rng: &mut Rng,
+    bytes: &mut [u8],
+    (cells, entries): (usize, usize),
+    base: usize,
+    symbol: usize,
+) {
     let cell = base + symbol;
     if cell >= cells {
         return;
@@ -224,5 +240,31 @@ fn trade_cells_for_entries(bytes: &mut [u8]) {
     if cells > 5 && entries + 6 <= ENTRY_LIMIT {
         put(bytes, 2, cells - 5);
         put(bytes, 4, entries + 6);
+    }
+}
+
+#[cfg(test)]
+mod tests {
+    use super::*;
+    use crate::make::lists::{good, Shape};
+    use crate::reference::fit::first_fit;
+    use crate::reference::right::Judge;
+
+    /// Often enough a damage does nothing but add a path by an apostrophe, which
+    /// only a judge of all symbols sees.
+    #[test]
+    fn apostrophes_come_in() {
+        let mut rng = Rng::new(39);
+        let mut found = 0;
+        for _ in 0..20_000 {
+            let shape = Shape::any(&mut rng);
+            let list = good(&mut rng, &shape);
+            let mut bytes = first_fit(&list).bytes();
+            damage(&mut rng, &mut bytes);
+            let table = Table::new(&bytes).expect("a table with a good head");
+            let fewer = Judge::over(&list, APOSTROPHE - 1).accepts(&table);
+            found += usize::from(fewer && !Judge::new(&list).accepts(&table));
+        }
+        assert!(found > 50, "{} paths by an apostrophe", found);
     }
 }

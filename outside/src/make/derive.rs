@@ -2,7 +2,7 @@
 
 use crate::reference::table::Table;
 use crate::reference::text::is_legal;
-use crate::reference::{Pattern, EDGE, LONGEST};
+use crate::reference::{Pattern, LONGEST, SYMBOLS};
 
 /// The patterns that a table's paths with outputs would be, in order; `None`
 /// if there are very many or one of them isn't legal. The table need not be
@@ -22,7 +22,7 @@ fn collect(
     list: &mut Vec<Pattern>,
     budget: &mut usize,
 ) -> Option<()> {
-    for symbol in 1..=EDGE {
+    for symbol in 1..=SYMBOLS {
         let cell = match table.matching(base, symbol) {
             Some(cell) => cell,
             None => continue,

@@ -1,8 +1,8 @@
 //! Exception lists, good and bad.
 
 use super::lists::{join, split, spoil_text};
-use super::words::small;
-use crate::reference::WORD_LIMIT;
+use super::words::{self, small};
+use crate::reference::{APOSTROPHE, WORD_LIMIT};
 use crate::rng::Rng;
 use std::collections::BTreeMap;
 
@@ -32,7 +32,8 @@ fn length(rng: &mut Rng) -> usize {
 pub fn good(rng: &mut Rng, alphabet: &[u8], count: usize) -> Vec<u8> {
     let mut found = BTreeMap::new();
     for _ in 0..count {
-        let letters: Vec<u8> = (0..length(rng)).map(|_| *rng.pick(alphabet)).collect();
+        let length = length(rng);
+        let letters = words::symbols(rng, alphabet, length);
         let line = line(rng, &letters);
         found.insert(letters, line);
     }
@@ -55,10 +56,15 @@ pub fn with_words(rng: &mut Rng, alphabet: &[u8], count: usize, words: &[Vec<u8>
     join(&lines)
 }
 
-/// The symbols of a line's letters.
-fn letters_of(line: &[u8]) -> Vec<u8> {
-    let letters = line.iter().filter(|byte| byte.is_ascii_lowercase());
-    letters.map(|byte| byte - b'a' + 1).collect()
+/// The symbols of a good line's letters, by which lines are sorted.
+pub fn letters_of(line: &[u8]) -> Vec<u8> {
+    let letters = line.iter().filter(|&&byte| byte != b'-');
+    letters
+        .map(|&byte| match byte {
+            b'\'' => APOSTROPHE,
+            _ => byte - b'a' + 1,
+        })
+        .collect()
 }
 
 /// A list with a fault in it, mostly; the reference decides.
@@ -69,13 +75,13 @@ pub fn bad(rng: &mut Rng, good: &[u8]) -> Vec<u8> {
     }
     let place = rng.below(lines.len());
     spoil(rng, &mut lines, place);
-    spoil_text(rng, join(&lines), b"\n-.1Aaz \r")
+    spoil_text(rng, join(&lines), b"\n-'.1Aaz \r")
 }
 
 /// Spoils one of the lines, or their order.
 fn spoil(rng: &mut Rng, lines: &mut Vec<Vec<u8>>, place: usize) {
     let inside = rng.range(0, lines[place].len());
-    match rng.below(12) {
+    match rng.below(18) {
         0 => {
             let other = rng.below(lines.len());
             lines.swap(place, other);
@@ -94,6 +100,11 @@ fn spoil(rng: &mut Rng, lines: &mut Vec<Vec<u8>>, place: usize) {
         8 => lines[place] = vec![b'-'],
         9 => lines[place].make_ascii_uppercase(),
         10 => lines[place].insert(inside, b'\n'),
+        11 | 12 => lines[place].insert(inside, b'\''),
+        13 => lines[place].insert(0, b'\''),
+        14 => lines[place].push(b'\''),
+        15 => drop(lines[place].splice(inside..inside, *b"'-'")),
+        16 => drop(lines[place].splice(inside..inside, *b"-'")),
         _ => lines[place].insert(inside, rng.byte()),
     }
 }
@@ -101,7 +112,7 @@ fn spoil(rng: &mut Rng, lines: &mut Vec<Vec<u8>>, place: usize) {
 /// Adds letters until the line has 63, 64 or 65 of them.
 fn lengthen(rng: &mut Rng, line: &mut Vec<u8>) {
     let wanted = rng.range(63, 65);
-    let count = |line: &[u8]| line.iter().filter(|byte| byte.is_ascii_lowercase()).count();
+    let count = |line: &[u8]| line.iter().filter(|&&byte| byte != b'-').count();
     while count(line) < wanted {
         line.push(b'a' + rng.below(2) as u8);
     }
@@ -110,11 +121,12 @@ fn lengthen(rng: &mut Rng, line: &mut Vec<u8>) {
 /// A good list of exactly so many bytes (at least some hundreds); the last
 /// line sorts behind the others and makes the sum right.
 pub fn exact(rng: &mut Rng, bytes: usize) -> Vec<u8> {
-    let alphabet: Vec<u8> = (1..=25).collect();
+    let alphabet: Vec<u8> = (1..=25).chain([APOSTROPHE]).collect();
     let mut found: BTreeMap<Vec<u8>, Vec<u8>> = BTreeMap::new();
     let mut size = 0;
     while bytes - size > 64 {
-        let letters: Vec<u8> = (0..length(rng)).map(|_| *rng.pick(&alphabet)).collect();
+        let length = length(rng);
+        let letters = words::symbols(rng, &alphabet, length);
         let line = line(rng, &letters);
         if found.contains_key(&letters) || size + line.len() + 3 > bytes {
             continue;
@@ -137,10 +149,27 @@ mod tests {
         let mut rng = Rng::new(3);
         for round in 0..200 {
             assert!(read_exceptions(&good(&mut rng, &[1, 2, 3], round % 30)).is_ok());
+            assert!(read_exceptions(&good(&mut rng, &[1, 2, 28], round % 30)).is_ok());
             let bytes = 8_000 + round;
             let text = exact(&mut rng, bytes);
             assert_eq!(text.len(), bytes);
             assert!(read_exceptions(&text).is_ok());
         }
+    }
+    /// Lines have apostrophes with a hyphen before them, behind them and on both
+    /// sides.
+    #[test]
+    fn lines_have_apostrophes() {
+        let mut rng = Rng::new(39);
+        let mut found = [0; 4];
+        for _ in 0..300 {
+            let text = good(&mut rng, &[1, 2, APOSTROPHE], 20);
+            for three in text.windows(3).filter(|three| three[1] == b'\'') {
+                let before = usize::from(three[0] == b'-');
+                let behind = usize::from(three[2] == b'-');
+                found[before + 2 * behind] += 1;
+            }
+        }
+        assert!(found.iter().all(|&count| count > 300), "{:?}", found);
     }
 }

@@ -193,8 +193,8 @@ pub fn bad_width(rng: &mut Rng) -> f64 {
     })
 }
 
-/// Puts a width at one of the 28 places: the hyphen's, the line's, then those
-/// of a to z.
+/// Puts a width at one of the 29 places: the hyphen's, the line's, then those
+/// of a to z and the apostrophe's.
 pub fn put(gauge: &mut Gauge, place: usize, width: f64) {
     match place {
         0 => gauge.hyphen = width,

@@ -4,7 +4,7 @@
 
 use crate::reference::table::{Table, CELL, ENTRY, HEAD};
 use crate::reference::text::is_legal;
-use crate::reference::{Pattern, CELL_LIMIT, EDGE, ENTRY_LIMIT, LONGEST};
+use crate::reference::{Pattern, APOSTROPHE, CELL_LIMIT, EDGE, ENTRY_LIMIT, LONGEST, SYMBOLS};
 use crate::rng::Rng;
 use std::collections::{BTreeMap, BTreeSet, HashMap};
 
@@ -102,9 +102,11 @@ impl Machine {
         Machine { states }
     }
 
-    /// A small machine with circles, each arrow with an output.
+    /// A small machine with circles, each arrow with an output. Apostrophes lead
+    /// to the last state, which has none, so that they often part letters.
     pub fn with_circles(rng: &mut Rng) -> Machine {
         let letters = rng.range(1, 3);
+        let apostrophes = rng.once_in(2);
         let size = rng.range(2, 5);
         let mut states = Vec::new();
         for number in 0..size {
@@ -132,6 +134,20 @@ impl Machine {
                 };
                 arrows.push(Arrow {
                     symbol: EDGE,
+                    to,
+                    output,
+                });
+            }
+            if apostrophes && number + 1 < size && rng.once_in(2) {
+                let to = if rng.once_in(3) { None } else { Some(size - 1) };
+                // Alone it is no pattern, so it sets nothing there.
+                let output = if number == 0 {
+                    Vec::new()
+                } else {
+                    circle_output(rng, number)
+                };
+                arrows.push(Arrow {
+                    symbol: APOSTROPHE,
                     to,
                     output,
                 });
@@ -318,7 +334,7 @@ fn choose_bases(rng: &mut Rng, machine: &Machine, style: &Style) -> Option<Vec<u
         while number > 0 && collides(base) {
             base += 1;
         }
-        if base + EDGE as usize >= CELL_LIMIT {
+        if base + SYMBOLS as usize >= CELL_LIMIT {
             return None;
         }
         taken.insert(base);
@@ -399,13 +415,13 @@ fn rubbish(rng: &mut Rng, number: usize, live: &BTreeSet<usize>) -> (u8, usize, 
     let mut symbol = if rng.once_in(3) {
         rng.byte()
     } else {
-        rng.range(0, 28) as u8
+        rng.range(0, 29) as u8
     };
-    let reached = (1..=EDGE).contains(&symbol)
+    let reached = (1..=SYMBOLS).contains(&symbol)
         && number >= symbol as usize
         && live.contains(&(number - symbol as usize));
     if reached {
-        symbol = *rng.pick(&[0, 28, 255]);
+        symbol = *rng.pick(&[0, SYMBOLS + 1, 255]);
     }
     let link = rng.bits() as u16 as usize;
     (symbol, link, rng.bits() as u16 as usize)
@@ -417,7 +433,7 @@ fn dead_link(rng: &mut Rng, bytes: &mut [u8], cell: usize, only_last: bool) {
     let limit = *rng.pick(&[30, 9_000, 65_535]);
     let link = rng.range(1, limit);
     let table = Table::new(bytes).expect("a finished table");
-    let leads_on = (1..=EDGE).any(|symbol| table.matching(link, symbol).is_some());
+    let leads_on = (1..=SYMBOLS).any(|symbol| table.matching(link, symbol).is_some());
     if only_last || !leads_on {
         let place = HEAD + CELL * cell + 2;
         bytes[place..place + 2].copy_from_slice(&(link as u16).to_be_bytes());
@@ -457,7 +473,7 @@ mod tests {
     #[test]
     fn circles_are_right() {
         let mut rng = Rng::new(5);
-        let mut tables = 0;
+        let (mut tables, mut with) = (0, 0);
         for _ in 0..400 {
             let machine = Machine::with_circles(&mut rng);
             let style = Style::any(&mut rng);
@@ -466,8 +482,11 @@ mod tests {
                 let table = Table::new(&bytes).unwrap();
                 let right = Judge::new(&list).accepts(&table);
                 tables += right as usize;
+                let has = |pattern: &Pattern| pattern.symbols().contains(&APOSTROPHE);
+                with += (right && list.iter().any(has)) as usize;
             }
         }
         assert!(tables > 100, "only {} circles were right", tables);
+        assert!(with > 20, "only {} had apostrophes", with);
     }
 }

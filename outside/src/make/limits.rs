@@ -1,7 +1,7 @@
 //! Lists whose first fit needs an exact number of cells and entries.
 
 use crate::reference::fit::{first_fit, make_entries};
-use crate::reference::{Pattern, LONGEST};
+use crate::reference::{Pattern, APOSTROPHE, LONGEST};
 use crate::rng::Rng;
 use std::collections::BTreeSet;
 
@@ -20,9 +20,14 @@ fn cells_of(strings: &BTreeSet<Vec<u8>>) -> usize {
     first_fit(&simple_list(strings)).cell_count()
 }
 
-/// A random string of sixteen letters.
+/// A random string of sixteen letters, now and then with an apostrophe between
+/// two of them.
 fn string(rng: &mut Rng) -> Vec<u8> {
-    (0..LONGEST).map(|_| rng.range(1, 26) as u8).collect()
+    let mut string: Vec<u8> = (0..LONGEST).map(|_| rng.range(1, 26) as u8).collect();
+    if rng.once_in(3) {
+        string[rng.range(1, LONGEST - 2)] = APOSTROPHE;
+    }
+    string
 }
 
 /// Strings whose first fit needs exactly so many cells. Nearly all their paths

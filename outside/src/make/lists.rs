@@ -1,20 +1,22 @@
 //! Pattern lists, good and bad.
 
-use super::words::alphabet;
-use crate::reference::text::{is_legal, write_pattern, write_patterns};
-use crate::reference::{Pattern, EDGE, LONGEST};
+use super::words::{alphabet, part_apostrophes};
+use crate::reference::text::{is_legal, write_pattern, write_patterns, write_symbol};
+use crate::reference::{Pattern, APOSTROPHE, EDGE, LONGEST};
 use crate::rng::Rng;
 use std::collections::BTreeMap;
 
-/// Lines about edges, nearly all bad.
-const ODD_LINES: [&[u8]; 12] = [
+/// Lines about edges and apostrophes, most of them bad.
+const ODD_LINES: [&[u8]; 26] = [
     b"1.a", b"a.1", b".1", b"1", b".", b"..", b".1.", b".a.", b".a1.", b"..a1", b"a..1", b"a.b1",
+    b"'1", b"1'", b"''1", b".'a1", b"a1'.", b"''a1", b"a'1'b", b".'1", b"'1.", b"a'.1", b"'a1",
+    b"a1'", b"'a'1", b"a'1b",
 ];
 
 /// What a random list looks like.
 #[derive(Clone, Debug)]
 pub struct Shape {
-    /// Symbols of the letters used.
+    /// Symbols of the letters used, the apostrophe at times among them.
     pub alphabet: Vec<u8>,
     /// How many patterns are tried; equal ones count once.
     pub count: usize,
@@ -68,6 +70,7 @@ fn symbols(rng: &mut Rng, shape: &Shape, earlier: &[Vec<u8>]) -> Vec<u8> {
         let last = made.len() - 1;
         made[last] = EDGE;
     }
+    part_apostrophes(rng, &mut made, &shape.alphabet);
     made
 }
 
@@ -131,7 +134,7 @@ pub fn bad(rng: &mut Rng, list: &[Pattern]) -> Vec<u8> {
     }
     let place = rng.below(lines.len());
     spoil(rng, &mut lines, place);
-    spoil_text(rng, join(&lines), b"\n.0123456789-Aaz \r")
+    spoil_text(rng, join(&lines), b"\n.'0123456789-Aaz \r")
 }
 
 /// Now and then spoils a text that isn't empty by one byte: the last left out,
@@ -161,7 +164,7 @@ pub fn spoil_text(rng: &mut Rng, mut text: Vec<u8>, odd: &[u8]) -> Vec<u8> {
 /// Spoils one of the lines, or their order.
 fn spoil(rng: &mut Rng, lines: &mut Vec<Vec<u8>>, place: usize) {
     let inside = rng.range(0, lines[place].len());
-    match rng.below(15) {
+    match rng.below(18) {
         0 => {
             let other = rng.below(lines.len());
             lines.swap(place, other);
@@ -187,7 +190,8 @@ fn spoil(rng: &mut Rng, lines: &mut Vec<Vec<u8>>, place: usize) {
         10 => lines[place].retain(|byte| !byte.is_ascii_lowercase()),
         11 => lines[place].insert(inside, b'\n'),
         12 => lines[place].push(b'\r'),
-        13 => lines[place] = rng.pick(&ODD_LINES).to_vec(),
+        13 | 14 => lines[place] = rng.pick(&ODD_LINES).to_vec(),
+        15 | 16 => lines[place].insert(inside, b'\''),
         _ => lines[place].insert(inside, rng.byte()),
     }
 }
@@ -201,16 +205,20 @@ fn lengthen(rng: &mut Rng, line: &mut Vec<u8>, symbols: usize) {
 }
 
 /// A good list whose text has exactly so many bytes (some hundreds at least).
-/// The last line begins with the edge and sorts behind all others; its length
-/// makes the sum right.
+/// The last line begins with the last symbol that the list has, the apostrophe
+/// or the edge, and sorts behind all others; its length makes the sum right.
 pub fn exact(rng: &mut Rng, shape: &Shape, bytes: usize) -> Vec<u8> {
     let mut found: BTreeMap<Vec<u8>, Vec<u8>> = BTreeMap::new();
     let mut size = 0;
     let mut earlier: Vec<Vec<u8>> = Vec::new();
+    let highest = match shape.alphabet.contains(&APOSTROPHE) {
+        true => APOSTROPHE,
+        false => EDGE,
+    };
     while bytes - size > 33 {
         let symbols = symbols(rng, shape, &earlier);
         let levels = levels(rng, shape, &symbols);
-        let begins_last = symbols.starts_with(&[EDGE, 26]);
+        let begins_last = symbols.starts_with(&[highest, 26]);
         if begins_last || found.contains_key(&symbols) || !is_legal(&symbols, &levels) {
             continue;
         }
@@ -224,16 +232,16 @@ pub fn exact(rng: &mut Rng, shape: &Shape, bytes: usize) -> Vec<u8> {
         earlier.push(symbols);
     }
     let mut text: Vec<u8> = found.into_values().flatten().collect();
-    text.extend(last_line(bytes - size));
+    text.extend(last_line(write_symbol(highest), bytes - size));
     text
 }
 
-/// A line ".z..." of 4 to 33 bytes with its line feed.
-fn last_line(bytes: usize) -> Vec<u8> {
+/// A line ".z..." or "'z..." of 4 to 33 bytes with its line feed.
+fn last_line(first: u8, bytes: usize) -> Vec<u8> {
     assert!((4..=33).contains(&bytes));
     let symbols = (bytes - 2).min(LONGEST);
     let mut digits = bytes - 1 - symbols;
-    let mut line = vec![b'.'];
+    let mut line = vec![first];
     for _ in 1..symbols {
         if digits > 0 {
             line.push(b'1');
@@ -251,6 +259,7 @@ fn last_line(bytes: usize) -> Vec<u8> {
 #[cfg(test)]
 mod tests {
     use super::*;
+    use crate::make::words::all_symbols;
     use crate::reference::text::read_patterns;
 
     #[test]
@@ -263,12 +272,33 @@ mod tests {
         }
     }
 
+    /// Patterns have apostrophes at the front, at the end and inside.
+    #[test]
+    fn lists_have_apostrophes() {
+        let mut rng = Rng::new(39);
+        let (mut first, mut last, mut inside) = (0, 0, 0);
+        for _ in 0..2_000 {
+            let shape = Shape::any(&mut rng);
+            for pattern in good(&mut rng, &shape) {
+                let symbols = pattern.symbols();
+                let end = symbols.len() - 1;
+                first += usize::from(symbols[0] == APOSTROPHE);
+                last += usize::from(symbols[end] == APOSTROPHE);
+                inside += usize::from(symbols[1..end.max(1)].contains(&APOSTROPHE));
+            }
+        }
+        let least = first.min(last).min(inside);
+        assert!(least > 500, "{}, {}, {}", first, last, inside);
+    }
+
     #[test]
     fn exact_lists_are_good_and_exact() {
         let mut rng = Rng::new(2);
         for bytes in (300..340).chain([32_768]) {
+            let mut alphabet = all_symbols();
+            alphabet.truncate(rng.range(26, 27));
             let shape = Shape {
-                alphabet: (1..=26).collect(),
+                alphabet,
                 count: 0,
                 longest: 8,
                 edges: 4,
@@ -285,9 +315,11 @@ mod tests {
     #[test]
     fn last_lines() {
         for bytes in 4..=33 {
-            let line = last_line(bytes);
-            assert_eq!(line.len(), bytes);
-            assert!(read_patterns(&line).is_ok(), "{:?}", line);
+            for first in [b'.', b'\''] {
+                let line = last_line(first, bytes);
+                assert_eq!(line.len(), bytes);
+                assert!(read_patterns(&line).is_ok(), "{:?}", line);
+            }
         }
     }
 }

@@ -48,8 +48,8 @@ fn push_cell(
     }
     // Few bases, so that several cells answer to one.
     let symbol = match rng.below(5) {
-        0 => 27,
-        1 => cell.min(27),
+        0 => *rng.pick(&[27, 28]),
+        1 => cell.min(28),
         2 => rng.below(30),
         _ => rng.range(1, letters),
     };
@@ -57,7 +57,7 @@ fn push_cell(
         0 => 0,
         1 => rng.bits() as u16 as usize,
         2 => cells,
-        3 => cell.saturating_sub(rng.range(0, 27)),
+        3 => cell.saturating_sub(rng.range(0, 28)),
         _ => rng.below(cells.min(40)),
     };
     let output = match rng.below(4) {
@@ -97,4 +97,26 @@ fn push_entry(rng: &mut Rng, bytes: &mut Vec<u8>, noise: usize, entry: usize, en
     };
     bytes.extend([distance as u8, level]);
     bytes.extend((next as u16).to_be_bytes());
+}
+
+#[cfg(test)]
+mod tests {
+    use super::*;
+    use crate::make::damage::reached;
+    use crate::reference::table::{CELL, HEAD};
+    use crate::reference::APOSTROPHE;
+
+    /// Many tables have a path with an apostrophe.
+    #[test]
+    fn apostrophes_are_reached() {
+        let mut rng = Rng::new(39);
+        let mut found = 0;
+        for _ in 0..2_000 {
+            let bytes = table(&mut rng, 3);
+            let symbol = |cell: &usize| bytes[HEAD + CELL * cell + 1];
+            let cells = reached(&bytes).cells;
+            found += usize::from(cells.iter().any(|cell| symbol(cell) == APOSTROPHE));
+        }
+        assert!(found > 400, "{} tables", found);
+    }
 }

@@ -136,7 +136,7 @@ impl Sums {
     pub fn new(rule: Otherwise, gauge: &Gauge, symbols: &[u8]) -> Sums {
         let widths: Vec<f64> = symbols
             .iter()
-            .map(|&symbol| gauge.letters[symbol as usize - 1])
+            .map(|&symbol| gauge.width_of(symbol))
             .collect();
         let hyphen = gauge.hyphen;
         // The sums of all beginnings, each from the one before.
@@ -213,7 +213,7 @@ impl Sums {
 mod tests {
     use super::*;
     use crate::make::gauges::{width, HALF, SHAPES};
-    use crate::reference::fit_line_by_integers;
+    use crate::reference::{fit_line_by_integers, WIDTHS};
     use crate::rng::Rng;
 
     /// Exact sums that are rounded at each step are those of binary64.
@@ -261,7 +261,7 @@ mod tests {
             let mut gauge = Gauge {
                 hyphen,
                 line,
-                letters: [0.0; 26],
+                letters: [0.0; WIDTHS],
             };
             gauge.letters[..2].copy_from_slice(&[a, b]);
             let room = [1; 64];

@@ -233,4 +233,31 @@ mod tests {
         assert_eq!(check(NINE, &table), 0);
         assert_eq!(check(b"", &table), 12 << 56);
     }
+
+    #[test]
+    fn apostrophes() {
+        let mut room = vec![7; PACK_ROOM];
+        // 30 cells and an entry; the walks of "l'en" look at 1, 3, 1, 1, 1 and
+        // 1 cells.
+        assert_eq!(pack(b"l'1e\n", &mut room), 191);
+        let table = room[..191].to_vec();
+        assert_eq!(check(b"l'1e\n", &table), 0);
+        assert_eq!(levels(b"L'en", &table, &mut room), 1 << 32 | 8);
+        assert_eq!(room[..5], [0, 0, 1, 0, 0]);
+        let house = b"len\nl-'en-trata\n";
+        let call = |left, right, word: &[u8], room: &mut [u8]| {
+            hyphenate(left, right, word, b"", house, &table, room)
+        };
+        assert_eq!(call(1, 5, b"l'entrata", &mut room), 2 << 32);
+        assert_eq!((room[1], room[4]), (1, 1));
+        assert_eq!(call(2, 5, b"l'entrata", &mut room), 1 << 32);
+        assert_eq!(call(2, 6, b"l'entrata", &mut room), 0);
+        assert_eq!(call(2, 2, b"l'en", &mut room), 1 << 32 | 8);
+        assert_eq!(call(3, 1, b"l'en", &mut room), 8);
+        assert_eq!(call(1, 1, b"l'", &mut room), 3 << 56 | 1);
+        assert_eq!(lookup(b"L'Entrata", b"", house), 2 << 48 | 4 << 16 | 11);
+        assert_eq!(lookup(b"lentrata", b"", house), 0);
+        assert_eq!(lookup(b"len", b"l'\n", house), 0);
+        assert_eq!(pack(b"a1\n'1\n", &mut room), 7 << 56 | 3);
+    }
 }

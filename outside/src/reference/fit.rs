@@ -2,7 +2,7 @@
 
 use super::table::{Entry, CELL, ENTRY, HEAD};
 use super::text::Pattern;
-use super::{CELL_LIMIT, ENTRY_LIMIT};
+use super::{CELL_LIMIT, ENTRY_LIMIT, SYMBOLS};
 use std::collections::{BTreeMap, BTreeSet, HashMap};
 
 /// The finished layout, before it is written as bytes.
@@ -75,6 +75,12 @@ struct Taken {
     bases: Vec<bool>,
     cells: Vec<bool>,
     low: usize,
+    symbols: u8,
+}
+
+/// Those of the symbols 1 to `symbols` that may follow a path.
+fn among(symbols: u8, needed: &BTreeSet<u8>) -> impl Iterator<Item = u8> + '_ {
+    (1..=symbols).filter(move |symbol| needed.contains(symbol))
 }
 
 /// Whether a mark is set; marks past the end aren't.
@@ -94,7 +100,7 @@ impl Taken {
     /// Takes a base and the cells it needs.
     fn take(&mut self, base: usize, needed: &BTreeSet<u8>) {
         set(&mut self.bases, base);
-        for &symbol in needed {
+        for symbol in among(self.symbols, needed) {
             set(&mut self.cells, base + symbol as usize);
         }
         while is_set(&self.bases, self.low) {
@@ -104,7 +110,9 @@ impl Taken {
 
     /// The smallest base from 1 up that no path has and whose cells are free.
     fn smallest(&self, needed: &BTreeSet<u8>) -> usize {
-        let offsets: Vec<usize> = needed.iter().map(|&symbol| symbol as usize).collect();
+        let offsets: Vec<usize> = among(self.symbols, needed)
+            .map(|symbol| symbol as usize)
+            .collect();
         let mut base = self.low;
         while is_set(&self.bases, base) || offsets.iter().any(|o| is_set(&self.cells, base + o)) {
             base += 1;
@@ -114,11 +122,15 @@ impl Taken {
 }
 
 /// Gives each path with continuations its base, in the order asked for.
-fn give_bases(following: &BTreeMap<(usize, Vec<u8>), BTreeSet<u8>>) -> HashMap<Vec<u8>, usize> {
+fn give_bases(
+    following: &BTreeMap<(usize, Vec<u8>), BTreeSet<u8>>,
+    symbols: u8,
+) -> HashMap<Vec<u8>, usize> {
     let mut taken = Taken {
         bases: Vec::new(),
         cells: Vec::new(),
         low: 1,
+        symbols,
     };
     let mut bases = HashMap::new();
     for ((length, path), needed) in following {
@@ -163,12 +175,18 @@ pub fn make_entries(list: &[Pattern]) -> (Vec<Entry>, HashMap<Vec<u8>, usize>) {
 
 /// Lays a good list out by first fit.
 pub fn first_fit(list: &[Pattern]) -> Layout {
+    first_fit_over(list, SYMBOLS)
+}
+
+/// First fit that knows the symbols 1 to `symbols` and no others, so that a test
+/// can lay lists out as it was done with fewer.
+pub fn first_fit_over(list: &[Pattern], symbols: u8) -> Layout {
     let following = continuations(list);
-    let bases = give_bases(&following);
+    let bases = give_bases(&following, symbols);
     let (entries, outputs) = make_entries(list);
     let mut cells = BTreeMap::new();
-    for ((_, path), symbols) in &following {
-        for &symbol in symbols {
+    for ((_, path), needed) in &following {
+        for symbol in among(symbols, needed) {
             let mut longer = path.clone();
             longer.push(symbol);
             let link = bases.get(&longer).copied().unwrap_or(0);
@@ -215,6 +233,25 @@ mod tests {
             let symbols: Vec<u8> = path.iter().map(|byte| byte - b'a' + 1).collect();
             assert_eq!(layout.bases[&symbols], base);
         }
+    }
+
+    /// The root has cell 12, "l" gets base 1 and cell 29, "l'" base 2 and cell 7.
+    #[test]
+    fn an_apostrophe() {
+        let layout = first_fit(&read_patterns(b"l'1e\n").unwrap());
+        let cells: Vec<_> = layout.cells.into_iter().collect();
+        let expected = [(7, (5, 0, 1)), (12, (12, 1, 0)), (29, (28, 2, 0))];
+        assert_eq!(cells, expected);
+    }
+
+    #[test]
+    fn fewer_symbols() {
+        let without = read_patterns(b"a1b\nab2c\n.c1a\n").unwrap();
+        let fewer = first_fit_over(&without, SYMBOLS - 1);
+        assert_eq!(fewer.bytes(), first_fit(&without).bytes());
+        let with = read_patterns(b"a1b\na'1\n").unwrap();
+        let fewer = first_fit_over(&with, SYMBOLS - 1);
+        assert_ne!(fewer.bytes(), first_fit(&with).bytes());
     }
 
     #[test]

@@ -7,10 +7,10 @@
 use super::binary64;
 use super::calls::settle;
 use super::text::read_word;
-use super::{Refusal, MARK_ROOM};
+use super::{Refusal, APOSTROPHE, LETTERS, MARK_ROOM};
 
-/// How many letters have a width.
-pub const WIDTHS: usize = 26;
+/// How many letters have a width: a to z, and the apostrophe.
+pub const WIDTHS: usize = 27;
 /// The greatest width that may be given.
 pub const WIDTH_LIMIT: f64 = 1_000.0;
 
@@ -21,8 +21,20 @@ pub struct Gauge {
     pub hyphen: f64,
     /// The line's.
     pub line: f64,
-    /// Those of a to z.
+    /// Those of a to z, then the apostrophe's.
     pub letters: [f64; WIDTHS],
+}
+
+impl Gauge {
+    /// The width of a letter of a word, given as its symbol. The edge has none,
+    /// so the apostrophe's stands right behind that of z.
+    pub fn width_of(&self, symbol: u8) -> f64 {
+        let place = match symbol {
+            APOSTROPHE => LETTERS,
+            letter => letter - 1,
+        };
+        self.letters[place as usize]
+    }
 }
 
 /// How widths are added and compared.
@@ -70,7 +82,7 @@ fn is_width<A: Arithmetic>(width: f64) -> bool {
 fn width_of<A: Arithmetic>(gauge: &Gauge, symbols: &[u8]) -> f64 {
     let mut sum = 0.0;
     for &symbol in symbols {
-        sum = A::add(sum, gauge.letters[symbol as usize - 1]);
+        sum = A::add(sum, gauge.width_of(symbol));
     }
     sum
 }
@@ -169,6 +181,28 @@ mod tests {
         let three = |line| answer(&gauge(0.0, line, 0.1), b"one", &[0; 64]);
         assert_eq!(three(0.3), 3 << 32);
         assert_eq!(three(binary64::above(0.3)), 1 << 32);
+    }
+
+    /// The 27th width is the apostrophe's and no other's.
+    #[test]
+    fn apostrophes() {
+        let narrow = |line| {
+            let mut narrow = gauge(0.5, line, 1.0);
+            narrow.letters[26] = 0.25;
+            narrow
+        };
+        let fit = |line, word: &[u8]| answer(&narrow(line), word, &[1; 64]);
+        assert_eq!(fit(3.25, b"L'En"), 1 << 32);
+        assert_eq!(fit(3.0, b"l'en"), 2 << 32 | 3);
+        assert_eq!(fit(2.5, b"l'en"), 2 << 32 | 2);
+        assert_eq!(fit(1.75, b"l'en"), 2 << 32 | 2);
+        assert_eq!(fit(1.5, b"l'en"), 2 << 32 | 1);
+        assert_eq!(fit(3.25, b"lzen"), 2 << 32 | 2);
+        let mut bad = narrow(4.0);
+        bad.letters[26] = f64::NAN;
+        assert_eq!(answer(&bad, b"l'en", &[1; 64]), 13 << 56);
+        assert_eq!(answer(&bad, b"len", &[1; 64]), 13 << 56);
+        assert_eq!(answer(&bad, b"l'", &[1; 64]), 3 << 56 | 1);
     }
 
     #[test]

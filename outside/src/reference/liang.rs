@@ -77,4 +77,17 @@ mod tests {
         assert_eq!(levels_of(b"on"), [0, 2, 0]);
         assert_eq!(levels_of(b"na"), [0, 0, 0]);
     }
+
+    /// The apostrophe is the second of nine letters.
+    #[test]
+    fn an_apostrophe_counts_as_a_letter() {
+        let list = read_patterns(b"a1t\nl1'\nn1t\n2'e\n'1e\n").unwrap_or_default();
+        assert!(list.is_empty(), "equal symbols don't ascend");
+        let list = read_patterns(b"a1t\nl1'\nn1t\n2'1e\n").unwrap();
+        let found = levels(&list, &read_word(b"L'entrata").unwrap());
+        assert_eq!(found[1..9], [2, 1, 0, 1, 0, 0, 1, 0]);
+        assert_eq!(breaks(&found, 2, 2), [2, 4, 7]);
+        assert_eq!(breaks(&found, 3, 2), [4, 7]);
+        assert_eq!(breaks(&found, 2, 3), [2, 4]);
+    }
 }

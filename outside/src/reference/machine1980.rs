@@ -518,7 +518,8 @@ pub fn reprint(codes: &[u8], budget: u32, seen: &mut Seen) -> Result<Reprint, Ra
     })
 }
 
-/// The codes of a word's letters, or the ground to refuse it.
+/// The codes of a word's letters, or the ground to refuse it. This machine
+/// takes the 26 letters alone, and no apostrophe.
 fn read(word: &[u8]) -> Result<Vec<u8>, Refusal> {
     if word.is_empty() {
         return Err(Refusal::plain(2));
@@ -605,6 +606,8 @@ mod tests {
         assert_eq!(call(b"", 0).0, 2 << 56);
         assert_eq!(call(&[b'1'; 64], 0).0, 4 << 56);
         assert_eq!(call(b"na\xefon", 0).0, 3 << 56 | 2);
+        assert_eq!(call(b"l'entrata", 0).0, 3 << 56 | 1);
+        assert_eq!(call(b"nation'", 0).0, 3 << 56 | 6);
         for byte in 0..=255u8 {
             let expected = match byte {
                 b'A'..=b'Z' | b'a'..=b'z' => 0,

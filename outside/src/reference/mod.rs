@@ -25,11 +25,18 @@ pub use machine1980::{archive, LETTERS_1980};
 pub use seen1980::Seen;
 pub use text::{Exception, Pattern};
 
+/// How many letters there are, capitals like small ones. Their symbols are 1 to
+/// this number.
+pub const LETTERS: u8 = 26;
 /// The symbol of the word's edge.
 pub const EDGE: u8 = 27;
+/// The symbol of an apostrophe, which counts as a letter of a word.
+pub const APOSTROPHE: u8 = 28;
+/// How many symbols there are: a path is a string of 1 to this number.
+pub const SYMBOLS: u8 = 28;
 /// The most symbols of a pattern, and so of a walk.
 pub const LONGEST: usize = 16;
-/// The most letters of a word or an exception line.
+/// The most letters of a word or an exception line, apostrophes too.
 pub const WORD_LIMIT: usize = 63;
 /// The most bytes of a pattern text.
 pub const PATTERN_TEXT_LIMIT: usize = 32_768;

@@ -2,18 +2,25 @@
 
 use super::table::{Cell, Table};
 use super::text::Pattern;
-use super::{EDGE, LONGEST};
+use super::{LONGEST, SYMBOLS};
 use std::collections::HashMap;
 
 /// A list in the form in which tables are judged by it: every beginning of a
 /// pattern, and the pattern itself where the beginning is a whole one.
 pub struct Judge {
     beginnings: HashMap<Vec<u8>, Option<Pattern>>,
+    symbols: u8,
 }
 
 impl Judge {
     /// Makes the judge of a good list.
     pub fn new(list: &[Pattern]) -> Judge {
+        Judge::over(list, SYMBOLS)
+    }
+
+    /// A judge that takes the strings of 1 to `symbols` for paths and no others,
+    /// so that a test can tell which tables one with fewer symbols lets pass.
+    pub fn over(list: &[Pattern], symbols: u8) -> Judge {
         let mut beginnings = HashMap::new();
         for pattern in list {
             let symbols = pattern.symbols();
@@ -25,7 +32,10 @@ impl Judge {
             }
             beginnings.insert(symbols.to_vec(), Some(*pattern));
         }
-        Judge { beginnings }
+        Judge {
+            beginnings,
+            symbols,
+        }
     }
 
     /// Whether the table is right for the list.
@@ -39,7 +49,7 @@ impl Judge {
     /// a pattern ends the search, so links in a circle can't keep it going.
     fn paths(&self, table: &Table<'_>, path: &mut Vec<u8>, base: usize) -> Option<usize> {
         let mut count = 0;
-        for symbol in 1..=EDGE {
+        for symbol in 1..=self.symbols {
             let cell = match table.matching(base, symbol) {
                 Some(cell) => cell,
                 None => continue,
@@ -110,6 +120,32 @@ mod tests {
         assert!(judge.accepts(&Table::new(&table).unwrap()));
         let shorter = Judge::new(&read_patterns(&text[..text.len() - 18]).unwrap());
         assert!(!shorter.accepts(&Table::new(&table).unwrap()));
+    }
+
+    /// A path by an apostrophe counts as any other: one too many is wrong, and
+    /// so is one too few.
+    #[test]
+    fn apostrophes() {
+        let list = read_patterns(b"a1\nb1\n").unwrap();
+        let mut bytes = first_fit(&list).bytes();
+        // Free cells up to 28, before the only entry.
+        bytes.splice(24..24, [2, 0, 0, 0, 0, 0].repeat(26));
+        bytes[3] = 29;
+        let extra = 6 + 6 * 28 + 1;
+        let fewer = Judge::over(&list, SYMBOLS - 1);
+        let judge = Judge::new(&list);
+        assert!(judge.accepts(&Table::new(&bytes).unwrap()));
+        bytes[extra] = 28;
+        assert!(!judge.accepts(&Table::new(&bytes).unwrap()));
+        assert!(fewer.accepts(&Table::new(&bytes).unwrap()));
+
+        let list = read_patterns(b"a'1\n'a1\n").unwrap();
+        let mut bytes = first_fit(&list).bytes();
+        let judge = Judge::new(&list);
+        assert!(judge.accepts(&Table::new(&bytes).unwrap()));
+        assert_eq!(bytes[extra], 28);
+        bytes[extra] = 0;
+        assert!(!judge.accepts(&Table::new(&bytes).unwrap()));
     }
 
     #[test]

@@ -484,6 +484,40 @@ pub fn bytes_and_sizes(run: &mut Run) -> Result<(), Mismatch> {
     })
 }
 
+/// An apostrophe is refused wherever it stands, at its place, also between two
+/// letters.
+pub fn apostrophes(run: &mut Run) -> Result<(), Mismatch> {
+    let mut seen = Seen::default();
+    run.once(|lab, rng| {
+        for length in 1..=66 {
+            for place in 0..length {
+                lab.settle(rng);
+                let mut word: Vec<u8> = b"interchangeable".repeat(5);
+                word.truncate(length);
+                words::with_capitals(rng, &mut word);
+                if length <= 63 {
+                    good(lab, &word, &mut seen)?;
+                }
+                word[place] = b'\'';
+                let expected = match length {
+                    0..=63 => 3 << 56 | place as u64,
+                    _ => 4 << 56,
+                };
+                let answer = lab.archive(&word, 64, &mut seen)?;
+                demand(answer == expected, || format!("{:?}", word))?;
+                let short = lab.archive(&word, 63, &mut seen)?;
+                demand(short == 5 << 56, || format!("{:?}", word))?;
+                // The first of two is told.
+                word[rng.range(place, length - 1)] = *rng.pick(b"'1-");
+                word[place] = b'\'';
+                let answer = lab.archive(&word, 64, &mut seen)?;
+                demand(answer == expected, || format!("{:?}", word))?;
+            }
+        }
+        Ok(())
+    })
+}
+
 /// Bad words, and bytes of any kind.
 pub fn hostile(run: &mut Run) -> Result<(), Mismatch> {
     let mut seen = Seen::default();

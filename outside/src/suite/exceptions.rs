@@ -6,6 +6,7 @@ use super::{Packed, NINE};
 use crate::run::{demand, Run};
 use outside::lab::{margins, Lab, Mismatch};
 use outside::make::{exceptions as make, words};
+use outside::reference::text::read_word;
 use outside::reference::EXCEPTION_TEXT_LIMIT;
 use outside::rng::Rng;
 
@@ -172,6 +173,12 @@ pub fn all_short_texts(run: &mut Run) -> Result<(), Mismatch> {
             lab.lookup(b"a", b"", text)?;
             lab.hyphenate(1, 1, b"aa", text, b"a\n", &table, 64)?;
             Ok(())
+        })?;
+        all_texts(b"a'-\n", 7, |text| {
+            lab.lookup(b"a'a", text, b"")?;
+            lab.hyphenate(1, 1, b"A'A", b"", text, &table, 64)?;
+            lab.hyphenate(1, 1, b"a", text, b"a-'a\n", &table, 64)?;
+            Ok(())
         })
     })
 }
@@ -179,15 +186,16 @@ pub fn all_short_texts(run: &mut Run) -> Result<(), Mismatch> {
 /// Every byte at every place of a good list, put in and put instead.
 pub fn all_bytes(run: &mut Run) -> Result<(), Mismatch> {
     let table = Packed::of_text(b"").table;
-    let mut list = b"a\nab-c\nb-a\nba-a-b\n".to_vec();
+    let mut list = b"a\nab-c\na'-b\nb-a\nba-a-b\n".to_vec();
     list.extend([b'c'; 63]);
-    list.extend(b"\nz-z\n");
+    list.extend(b"\nc'c\nz-z\n");
     run.once(|lab, _| {
         for place in 0..list.len() {
             for byte in 0..=255 {
                 let mut other = list.clone();
                 other[place] = byte;
                 lab.lookup(b"abc", &other, b"")?;
+                lab.lookup(b"a'b", &other, b"")?;
                 lab.hyphenate(1, 1, b"zz", b"", &other, &table, 64)?;
                 other[place] = list[place];
                 other.insert(place, byte);
@@ -256,9 +264,8 @@ pub fn other_lines(run: &mut Run) -> Result<(), Mismatch> {
     run.rounds(30_000, |lab, rng| {
         let alphabet = words::alphabet(rng);
         let word = words::from_patterns(rng, &nine.list, &alphabet);
-        let letters: Vec<u8> = word.iter().map(|byte| byte.to_ascii_lowercase()).collect();
-        let symbols: Vec<u8> = letters.iter().map(|byte| byte - b'a' + 1).collect();
-        let line = make::line(rng, &symbols);
+        let letters = read_word(&word).expect("a good word");
+        let line = make::line(rng, &letters);
         let (left, right) = margins(rng);
         let mut answers = Vec::new();
         let in_list = rng.once_in(2);
@@ -285,15 +292,11 @@ fn around(
     with_line: bool,
 ) -> Vec<u8> {
     let text = make::good(rng, alphabet, size);
-    let bare = |line: &[u8]| -> Vec<u8> {
-        let kept = line.iter().copied().filter(|&byte| byte != b'-');
-        kept.collect()
-    };
     let mut lines = outside::make::lists::split(&text);
-    lines.retain(|other| bare(other) != letters);
+    lines.retain(|other| make::letters_of(other) != letters);
     if with_line {
         lines.push(line.to_vec());
-        lines.sort_by_key(|line| bare(line));
+        lines.sort_by_key(|line| make::letters_of(line));
     }
     outside::make::lists::join(&lines)
 }

@@ -1,4 +1,5 @@
-//! The figures that the scope document gives.
+//! The figures that the scope document gives, and what the change request on
+//! apostrophes names.
 
 use super::{Packed, NINE};
 use crate::run::{demand, Run};
@@ -17,7 +18,7 @@ fn same(what: &str, found: u64, wanted: u64) -> Result<(), Mismatch> {
     })
 }
 
-/// All figures of the document, each with the number it gives.
+/// All figures, each with the number it gives.
 pub fn figures(run: &mut Run) -> Result<(), Mismatch> {
     run.once(|lab, _| {
         packing(lab)?;
@@ -25,7 +26,8 @@ pub fn figures(run: &mut Run) -> Result<(), Mismatch> {
         nine_patterns(lab, &table)?;
         exception_lines(lab, &table)?;
         word_lengths(lab, &table)?;
-        pattern_lengths(lab)
+        pattern_lengths(lab)?;
+        apostrophes(lab, &table)
     })
 }
 
@@ -145,4 +147,39 @@ fn pattern_lengths(lab: &mut Lab) -> Result<(), Mismatch> {
     same("the edge doesn't sort first", order, refusal(7, 0, 4))?;
     let short = lab.pack(NINE, PACK_ROOM - 1)?;
     same("room too small", short, refusal(10, 0, 0))
+}
+
+/// Where an apostrophe may stand in a word, a pattern and an exception.
+fn apostrophes(lab: &mut Lab, table: &[u8]) -> Result<(), Mismatch> {
+    for word in ["l'entrata", "L'Entrata", "A'B", "a'b'c"] {
+        let answer = lab.levels(word.as_bytes(), table, 64)?;
+        same(word, answer >> 56, 0)?;
+    }
+    for (word, place) in [("a'1", 1), ("a''b", 1), ("a'", 1), ("'a", 0), ("a1'b", 1)] {
+        let answer = lab.levels(word.as_bytes(), table, 64)?;
+        same(word, answer, refusal(3, 0, place))?;
+    }
+    for line in ["'a1", "'a'1", "'a1.", "a'1", "a1'", "l'1e"] {
+        let answer = lab.pack(format!("{}\n", line).as_bytes(), PACK_ROOM)?;
+        same(line, answer >> 56, 0)?;
+    }
+    for line in [".'a1", "a1'.", "''a1", "a'1'b", "'1"] {
+        let answer = lab.pack(format!("{}\n", line).as_bytes(), PACK_ROOM)?;
+        same(line, answer, refusal(7, 0, 0))?;
+    }
+    let order = lab.pack(b"z1\n.a1\n'a1\n", PACK_ROOM)?;
+    same("the apostrophe sorts last", order >> 56, 0)?;
+    let order = lab.pack(b"'a1\n.a1\n", PACK_ROOM)?;
+    same("the edge sorts before it", order, refusal(7, 0, 4))?;
+    for line in ["l'en", "l'-en", "l-'en", "l-'-en"] {
+        let text = format!("{}\n", line);
+        let found = lab.lookup(b"L'en", b"", text.as_bytes())?;
+        same(line, found, 2 << 48 | line.len() as u64)?;
+    }
+    for line in ["a'-'b", "l'", "'l", "l-'", "a''b"] {
+        let text = format!("{}\n", line);
+        let answer = lab.hyphenate(1, 1, b"on", text.as_bytes(), b"", table, 64)?;
+        same(line, answer, refusal(6, 1, 0))?;
+    }
+    Ok(())
 }

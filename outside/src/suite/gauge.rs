@@ -1,6 +1,7 @@
 //! Which break fits a line: widths of all shapes and at every edge, grounds,
 //! rooms, and sums that another rule would give otherwise.
 
+use super::Kinds;
 use crate::run::{demand, Run};
 use outside::fence::Place;
 use outside::lab::{Lab, Mismatch};
@@ -10,7 +11,7 @@ use outside::make::words;
 use outside::reference::binary64::{above, add, below};
 use outside::reference::gauge::{beginnings, Arithmetic, Compiled, Integers};
 use outside::reference::text::read_word;
-use outside::reference::{Gauge, WIDTHS, WIDTH_LIMIT};
+use outside::reference::{Gauge, APOSTROPHE, WIDTHS, WIDTH_LIMIT};
 use outside::rng::Rng;
 use tteolmigu::{any, raw, Exceptions, Fit, Ground, Margins};
 
@@ -79,7 +80,19 @@ pub fn random(run: &mut Run) -> Result<(), Mismatch> {
     })
 }
 
-/// Widths that are refused, at each of the 28 places alone, and the last ones
+/// A word that has the letter whose width stands at this place of the 29, and
+/// one that doesn't.
+fn words_of_place(place: usize) -> [Vec<u8>; 2] {
+    let without = if place == 2 + 13 { b"oo" } else { b"nn" };
+    let with = match place {
+        0 | 1 => b"aaa".to_vec(),
+        _ if place + 1 == PLACES => b"n'n".to_vec(),
+        _ => vec![b'a' + place as u8 - 2; 3],
+    };
+    [with, without.to_vec()]
+}
+
+/// Widths that are refused, at each of the 29 places alone, and the last ones
 /// that aren't.
 pub fn bad_widths(run: &mut Run) -> Result<(), Mismatch> {
     let room = room_of(&[1, 2]);
@@ -92,11 +105,9 @@ pub fn bad_widths(run: &mut Run) -> Result<(), Mismatch> {
     ];
     run.once(|lab, _| {
         for place in 0..PLACES {
-            // A word of the letter that belongs there, and words without it.
-            let letter = b'a' + place.saturating_sub(2) as u8;
-            let other = if letter == b'n' { b'o' } else { b'n' };
-            let words = [[letter; 3], [other; 3], [letter.to_ascii_uppercase(); 3]];
-            for word in &words {
+            let [with, without] = words_of_place(place);
+            for word in [with.to_ascii_uppercase(), with, without] {
+                let word = &word[..];
                 for bits in BAD {
                     let mut gauge = equal(0.25, 2.5, 1.0);
                     put(&mut gauge, place, f64::from_bits(bits));
@@ -187,7 +198,7 @@ pub fn grounds(run: &mut Run) -> Result<(), Mismatch> {
             let mut word = words::good(rng, &[1, 2, 26], length);
             let place = rng.below(length.max(1));
             if bad_byte {
-                word[place] = *rng.pick(b"@[`{-'0\0\x80\xff");
+                word[place] = words::foreign(rng, place, length);
             }
             let mut gauge = gauges::gauge(rng);
             if bad {
@@ -222,7 +233,7 @@ pub fn bytes_and_sizes(run: &mut Run) -> Result<(), Mismatch> {
         *width += letter as f64 / 10.0;
     }
     let mut bad = gauge;
-    bad.letters[25] = f64::NAN;
+    bad.letters[WIDTHS - 1] = f64::NAN;
     run.once(|lab, _| {
         for place in [Place::Middle(9), Place::End, Place::Start] {
             lab.lend_at(place);
@@ -294,6 +305,60 @@ pub fn marks(run: &mut Run) -> Result<(), Mismatch> {
         }
         Ok(())
     })
+}
+
+/// Each width is read for its own letter and for no other, the 27th for the
+/// apostrophe. The widths are powers of two, so that sums are exact.
+pub fn apostrophe(run: &mut Run) -> Result<(), Mismatch> {
+    let order = b"abcdefghijklmnopqrstuvwxyz'";
+    let unit = 1.0 / (1u64 << 26) as f64;
+    let mut kinds = Kinds::new(&[
+        "apostrophe in the word",
+        "no apostrophe in the word",
+        "letter in the word",
+        "letter not in the word",
+    ]);
+    run.rounds(12_000, |lab, rng| {
+        let word = gauges::word(rng);
+        let small = word.to_ascii_lowercase();
+        let place_of = |byte: &u8| order.iter().position(|other| other == byte);
+        let places: Vec<usize> = small.iter().filter_map(place_of).collect();
+        let mut gauge = equal(0.0, 0.0, 0.0);
+        for (place, width) in gauge.letters.iter_mut().enumerate() {
+            *width = (1u64 << (26 - place)) as f64 * unit;
+        }
+        let sum: u64 = places.iter().map(|&place| 1 << (26 - place)).sum();
+        gauge.line = sum as f64 * unit;
+        let (all, none) = ([1; 64], [0; 64]);
+        known(lab, &gauge, &word, &none, WHOLE)?;
+        let narrow = Gauge {
+            line: below(gauge.line),
+            ..gauge
+        };
+        known(lab, &narrow, &word, &none, NONE)?;
+        let last = match word.len() {
+            1 => NONE,
+            letters => BREAK | (letters as u64 - 1),
+        };
+        known(lab, &narrow, &word, &all, last)?;
+        for (place, letter) in order.iter().enumerate() {
+            let mut wider = gauge;
+            wider.letters[place] += unit;
+            let has = small.contains(letter);
+            kinds.note(match (letter, has) {
+                (b'\'', true) => "apostrophe in the word",
+                (b'\'', false) => "no apostrophe in the word",
+                (_, true) => "letter in the word",
+                (_, false) => "letter not in the word",
+            });
+            let answer = if has { NONE } else { WHOLE };
+            known(lab, &wider, &word, &none, answer)?;
+            wider.letters[place] = bad_width(rng);
+            known(lab, &wider, &word, &none, 13 << 56)?;
+        }
+        Ok(())
+    })?;
+    kinds.all_met_if(run.is_whole())
 }
 
 /// Sums by hand.
@@ -389,7 +454,7 @@ pub fn wrapper(run: &mut Run) -> Result<(), Mismatch> {
     let table = super::Packed::of_text(b"1a\n1b\n").table;
     run.rounds(100_000, |lab, rng| {
         let length = words::length(rng);
-        let mut word = words::good(rng, &[1, 2, 3], length);
+        let mut word = words::good(rng, &[1, 2, 3, APOSTROPHE], length);
         let right = rng.range(1, 4) as u64;
         let margins = Margins::new(1, right).expect("a good margin");
         let lists = Exceptions::NONE;

@@ -3,7 +3,7 @@
 use super::words_by_list;
 use crate::run::{demand, Run};
 use outside::lab::{Lab, Mismatch};
-use outside::make::limits;
+use outside::make::{limits, words};
 use outside::reference::text::write_patterns;
 use outside::reference::{CELL_LIMIT, ENTRY_LIMIT, PACK_ROOM};
 use outside::rng::Rng;
@@ -29,7 +29,7 @@ fn one(lab: &mut Lab, rng: &mut Rng, cells: usize, entries: usize) -> Result<(),
         }
         let table = lab.room()[..answer as usize].to_vec();
         demand(lab.check(&text, &table)? == 0, || "accepted".to_string())?;
-        let alphabet: Vec<u8> = (1..=26).collect();
+        let alphabet = words::all_symbols();
         words_by_list(lab, rng, &list, &alphabet, &table, 40)?;
         for _ in 0..40 {
             let mut other = table.clone();

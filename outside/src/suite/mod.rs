@@ -1,5 +1,7 @@
 //! The named tests.
 
+mod apostrophe_tables;
+mod apostrophes;
 mod archive;
 mod exceptions;
 mod figures;
@@ -11,12 +13,13 @@ mod rooms;
 mod tables;
 mod words;
 
-use crate::run::{Options, Test};
+use crate::run::{demand, Options, Test};
 use outside::lab::{margins, Lab, Mismatch};
 use outside::make::words as make_words;
 use outside::reference::text::{read_patterns, write_patterns};
 use outside::reference::{fit, Pattern};
 use outside::rng::Rng;
+use std::collections::BTreeMap;
 
 /// Knuth's example, used in many fixed cases.
 pub const NINE: &[u8] = b"he2n\nhena4\nhen5at\nhy3ph\n2io\n1na\nn2at\no2n\n1tio\n";
@@ -42,6 +45,44 @@ impl Packed {
     /// Packs a good text with the reference.
     pub fn of_text(text: &[u8]) -> Packed {
         Packed::of_list(read_patterns(text).expect("a good list"))
+    }
+}
+
+/// How often each kind of case came up in a test. One that never did would show
+/// nothing.
+pub struct Kinds {
+    counts: BTreeMap<&'static str, u64>,
+}
+
+impl Kinds {
+    /// Kinds that are to come up.
+    pub fn new(names: &[&'static str]) -> Kinds {
+        Kinds {
+            counts: names.iter().map(|&name| (name, 0)).collect(),
+        }
+    }
+
+    /// Counts a case of a kind.
+    pub fn note(&mut self, name: &'static str) {
+        let count = self.counts.get_mut(name).expect("a kind that is known");
+        *count += 1;
+    }
+
+    /// An error unless every kind came up.
+    pub fn all_met(&self) -> Result<(), Mismatch> {
+        let all = self.counts.values().all(|&count| count > 0);
+        demand(all, || {
+            format!("a kind of case is missing: {:?}", self.counts)
+        })
+    }
+
+    /// The same, if enough rounds were run.
+    pub fn all_met_if(&self, whole: bool) -> Result<(), Mismatch> {
+        if whole {
+            self.all_met()
+        } else {
+            Ok(())
+        }
     }
 }
 
@@ -89,6 +130,9 @@ pub fn all(options: &Options) -> Vec<Test> {
         add("word-file-even", real::word_file_even);
         add("word-file-odd", real::word_file_odd);
     }
+    if !options.patterns.is_empty() {
+        add("pattern-files", real::pattern_files);
+    }
     add("real-words-en-us", real::words_en_us);
     add("real-damage-en-us", real::damage_en_us);
     add("damaged-tables", tables::damaged);
@@ -97,6 +141,16 @@ pub fn all(options: &Options) -> Vec<Test> {
     add("pack-small-lists", patterns::pack_small);
     add("circles", tables::circles);
     add("every-byte-of-nine", tables::every_byte_of_nine);
+    add("every-byte-of-elisions", tables::every_byte_of_elisions);
+    add("apostrophe-extra-paths", apostrophe_tables::extra_paths);
+    add("apostrophe-missing-paths", apostrophe_tables::missing_paths);
+    add("apostrophe-kept-tables", apostrophe_tables::kept_tables);
+    add("apostrophe-patterns", apostrophes::patterns);
+    add("apostrophe-exceptions", apostrophes::exceptions);
+    add("apostrophe-words", apostrophes::words);
+    add("apostrophe-order", apostrophes::order);
+    add("apostrophe-limits", apostrophes::limits);
+    add("apostrophe-entrata", apostrophes::entrata);
     add("gauge-random", gauge::random);
     add("gauge-edges", gauge::edges);
     add("limits-both", limits::both);
@@ -123,6 +177,7 @@ pub fn all(options: &Options) -> Vec<Test> {
     add("other-lines", exceptions::other_lines);
     add("real-layouts-en-us", real::layouts_en_us);
     add("real-words-it", real::words_it);
+    add("real-words-elisions", real::words_elisions);
     add("real-words-la", real::words_la);
     add("real-pack", real::pack);
     add("real-exceptions", real::exceptions);
@@ -137,6 +192,7 @@ pub fn all(options: &Options) -> Vec<Test> {
     add("gauge-grounds", gauge::grounds);
     add("gauge-bytes-and-sizes", gauge::bytes_and_sizes);
     add("gauge-marks", gauge::marks);
+    add("gauge-apostrophe", gauge::apostrophe);
     add("gauge-figures", gauge::figures);
     add("gauge-wrapper", gauge::wrapper);
     add("gauge-additions", gauge::additions);
@@ -152,6 +208,7 @@ pub fn all(options: &Options) -> Vec<Test> {
     add("archive-most", archive::most);
     add("archive-grounds", archive::grounds);
     add("archive-bytes-and-sizes", archive::bytes_and_sizes);
+    add("archive-apostrophes", archive::apostrophes);
     add("archive-hostile", archive::hostile);
     add("archive-prose", archive::prose);
     add("archive-same", archive::same);

@@ -5,7 +5,7 @@ use crate::run::{demand, Run};
 use outside::lab::{Lab, Mismatch};
 use outside::make::lists::{self, Shape};
 use outside::reference::text::{read_patterns, write_patterns};
-use outside::reference::{Pattern, PACK_ROOM, PATTERN_TEXT_LIMIT};
+use outside::reference::{Pattern, APOSTROPHE, PACK_ROOM, PATTERN_TEXT_LIMIT};
 use outside::rng::Rng;
 
 /// Packs a good list, has the packing checked, and tries words over it. A
@@ -39,12 +39,20 @@ pub fn pack_small(run: &mut Run) -> Result<(), Mismatch> {
     })
 }
 
+/// The alphabet with the apostrophe, every second time.
+fn with_apostrophe(rng: &mut Rng, mut alphabet: Vec<u8>) -> Vec<u8> {
+    if rng.once_in(2) {
+        alphabet.push(APOSTROPHE);
+    }
+    alphabet
+}
+
 /// Lists of hundreds of patterns over many letters.
 pub fn pack_wide(run: &mut Run) -> Result<(), Mismatch> {
     run.rounds(250, |lab, rng| {
         let letters = rng.range(3, 26) as u8;
         let shape = Shape {
-            alphabet: (1..=letters).collect(),
+            alphabet: with_apostrophe(rng, (1..=letters).collect()),
             count: rng.range(100, 2_500),
             longest: rng.range(3, 9),
             edges: *rng.pick(&[0, 4, 10]),
@@ -102,15 +110,18 @@ pub fn all_short_texts(run: &mut Run) -> Result<(), Mismatch> {
         all_texts(b"a.1\n", 8, |text| lab.check(text, b"").map(|_| ()))?;
         all_texts(b"ab1\n", 8, |text| lab.check(text, b"").map(|_| ()))?;
         all_texts(b"az.9\n", 6, |text| lab.check(text, &empty).map(|_| ()))?;
-        all_texts(b"a.1\n", 5, |text| lab.pack(text, PACK_ROOM).map(|_| ()))
+        all_texts(b"a'1\n", 8, |text| lab.check(text, b"").map(|_| ()))?;
+        all_texts(b"a.1\n", 5, |text| lab.pack(text, PACK_ROOM).map(|_| ()))?;
+        all_texts(b"a'1\n", 5, |text| lab.pack(text, PACK_ROOM).map(|_| ()))
     })
 }
 
 /// Every byte at every place of a good list, put in, put instead, left out.
 pub fn all_bytes(run: &mut Run) -> Result<(), Mismatch> {
     let full = b"a1bcdefghijklmnop\n1b.\n1c1d1\n9z\n.a1b.\n.b1cdefghijklmnop\n";
+    let apostrophes = b"a'1b\nb'c'd1\n1b1'\n.c'1d.\n'a1.\n'b'1\n'c'defghijklmnop'1\n";
     run.once(|lab, _| {
-        for text in [NINE, full] {
+        for text in [NINE, full, apostrophes] {
             for place in 0..text.len() {
                 for byte in 0..=255 {
                     let mut other = text.to_vec();
@@ -136,7 +147,7 @@ pub fn text_limit(run: &mut Run) -> Result<(), Mismatch> {
     run.rounds(20, |lab, rng| {
         let letters = rng.range(4, 26) as u8;
         let shape = Shape {
-            alphabet: (1..=letters).collect(),
+            alphabet: with_apostrophe(rng, (1..=letters).collect()),
             count: 0,
             longest: rng.range(9, 16),
             edges: *rng.pick(&[0, 5]),
@@ -160,8 +171,9 @@ pub fn text_limit(run: &mut Run) -> Result<(), Mismatch> {
 /// A full text of short strings over few letters: they share most of their
 /// beginnings, so that it packs.
 fn crowded(lab: &mut Lab, rng: &mut Rng) -> Result<(), Mismatch> {
+    let letters = (1..=rng.range(5, 7) as u8).collect();
     let shape = Shape {
-        alphabet: (1..=rng.range(5, 7) as u8).collect(),
+        alphabet: with_apostrophe(rng, letters),
         count: 0,
         longest: 5,
         edges: 6,

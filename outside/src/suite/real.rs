@@ -1,4 +1,4 @@
-//! Real lists from the `data` folder.
+//! Real lists from the `data` folder, and what the command line names.
 
 use super::Packed;
 use crate::run::{demand, Run};
@@ -6,8 +6,8 @@ use outside::lab::{margins, Lab, Mismatch};
 use outside::make::layout::{render, Machine, Style};
 use outside::make::words;
 use outside::reference::right::Judge;
-use outside::reference::text::read_word;
-use outside::reference::{Seen, PACK_ROOM};
+use outside::reference::text::{read_pattern, read_word};
+use outside::reference::{Pattern, Seen, APOSTROPHE, EDGE, PACK_ROOM, WORD_LIMIT};
 use outside::rng::Rng;
 
 /// A data file; without it the test fails and says so.
@@ -51,6 +51,7 @@ pub fn pack(run: &mut Run) -> Result<(), Mismatch> {
     run.once(|lab, _| {
         pack_one(lab, "en-us.pat", 7_131, 181)?;
         pack_one(lab, "it.pat", 436, 34)?;
+        pack_one(lab, "it-elisions.pat", 457, 34)?;
         pack_one(lab, "la.pat", 506, 25)?;
         let over = lab.pack(&data("en-us-max.pat")?, PACK_ROOM + 9)?;
         demand(over == 11 << 56, || format!("en-us-max.pat: {:#x}", over))?;
@@ -63,10 +64,14 @@ pub fn pack(run: &mut Run) -> Result<(), Mismatch> {
     })
 }
 
-/// Words from a list's own pieces, by the list.
+/// Words over one of our lists.
 fn words_of(run: &mut Run, name: &str, rounds: u64) -> Result<(), Mismatch> {
-    let packed = packed(name)?;
-    let alphabet: Vec<u8> = (1..=26).collect();
+    words_over(run, &packed(name)?, rounds)
+}
+
+/// Words from a list's own pieces, by the list.
+fn words_over(run: &mut Run, packed: &Packed, rounds: u64) -> Result<(), Mismatch> {
+    let alphabet = words::all_symbols();
     run.rounds(rounds, |lab, rng| {
         let word = words::from_patterns(rng, &packed.list, &alphabet);
         lab.word_by_list(&packed.list, &word, &packed.table, margins(rng))
@@ -78,7 +83,7 @@ fn words_of(run: &mut Run, name: &str, rounds: u64) -> Result<(), Mismatch> {
                 .symbols()
                 .iter()
                 .copied()
-                .filter(|&s| s < 27)
+                .filter(|&s| s != EDGE)
                 .collect();
             for length in 1..=letters.len() {
                 let word: Vec<u8> = letters[..length].iter().map(|&s| words::small(s)).collect();
@@ -98,6 +103,11 @@ pub fn words_en_us(run: &mut Run) -> Result<(), Mismatch> {
 /// Words over the Italian list.
 pub fn words_it(run: &mut Run) -> Result<(), Mismatch> {
     words_of(run, "it.pat", 160_000)
+}
+
+/// Words over the Italian list with elisions.
+pub fn words_elisions(run: &mut Run) -> Result<(), Mismatch> {
+    words_of(run, "it-elisions.pat", 160_000)
 }
 
 /// Words over the Latin list.
@@ -145,7 +155,7 @@ pub fn exceptions(run: &mut Run) -> Result<(), Mismatch> {
 pub fn damage_en_us(run: &mut Run) -> Result<(), Mismatch> {
     let packed = packed("en-us.pat")?;
     let judge = Judge::new(&packed.list);
-    let alphabet: Vec<u8> = (1..=26).collect();
+    let alphabet = words::all_symbols();
     run.rounds(8_000, |lab, rng| {
         let mut table = packed.table.clone();
         let place = rng.below(table.len());
@@ -174,7 +184,7 @@ pub fn layouts_en_us(run: &mut Run) -> Result<(), Mismatch> {
     let packed = packed("en-us.pat")?;
     let judge = Judge::new(&packed.list);
     let machine = Machine::of_list(&packed.list).shared();
-    let alphabet: Vec<u8> = (1..=26).collect();
+    let alphabet = words::all_symbols();
     run.rounds(25, |lab, rng| {
         let style = Style {
             low: 1,
@@ -201,7 +211,15 @@ pub fn layouts_en_us(run: &mut Run) -> Result<(), Mismatch> {
     })
 }
 
-/// One line of a word file through both calls.
+/// Whether a line is runs of letters with one apostrophe between each two, and
+/// not too long.
+fn is_word(line: &[u8]) -> bool {
+    let letters = |part: &[u8]| !part.is_empty() && part.iter().all(u8::is_ascii_alphabetic);
+    line.len() <= WORD_LIMIT && line.split(|&byte| byte == b'\'').all(letters)
+}
+
+/// One line of a word file through both calls. A word with an apostrophe is as
+/// good as any, but not for the machine of 1980.
 fn one_word(lab: &mut Lab, packed: &Packed, house: &[u8], word: &[u8]) -> Result<(), Mismatch> {
     if read_word(word).is_ok() {
         lab.word_by_list(&packed.list, word, &packed.table, (2, 3))?;
@@ -209,8 +227,51 @@ fn one_word(lab: &mut Lab, packed: &Packed, house: &[u8], word: &[u8]) -> Result
         lab.levels(word, &packed.table, 64)?;
     }
     lab.lookup(word, b"", house)?;
-    lab.hyphenate(2, 3, word, b"", house, &packed.table, 64)?;
-    lab.archive(word, 64, &mut Seen::default())?;
+    let answer = lab.hyphenate(2, 3, word, b"", house, &packed.table, 64)?;
+    demand((answer >> 56 == 0) == is_word(word), || {
+        format!("{:?} gives {:#x}", word, answer)
+    })?;
+    let answer = lab.archive(word, 64, &mut Seen::default())?;
+    let taken = is_word(word) && !word.contains(&b'\'');
+    demand((answer >> 56 == 0) == taken, || {
+        format!("{:?} gives {:#x} in 1980", word, answer)
+    })
+}
+
+/// The lines of somebody's pattern file that a list can hold, in order; of two
+/// with the same symbols the first.
+fn held(text: &[u8]) -> Vec<Pattern> {
+    let lines = text.split(|&byte| byte == b'\n');
+    let mut list: Vec<Pattern> = lines.filter_map(read_pattern).collect();
+    list.sort_by(|one, other| one.symbols().cmp(other.symbols()));
+    list.dedup_by(|later, first| later.symbols() == first.symbols());
+    list
+}
+
+/// Every pattern file given: what a list can hold of it is packed, accepted and
+/// walked. Some of its lines have to have apostrophes.
+pub fn pattern_files(run: &mut Run) -> Result<(), Mismatch> {
+    for text in run.patterns() {
+        let packed = Packed::of_list(held(text));
+        let has = |pattern: &&Pattern| pattern.symbols().contains(&APOSTROPHE);
+        let elided = packed.list.iter().filter(has).count();
+        println!(
+            "{} patterns, {} of them with apostrophes",
+            packed.list.len(),
+            elided
+        );
+        run.once(|lab, _| {
+            demand(elided > 0, || "a pattern with an apostrophe".to_string())?;
+            let answer = lab.pack(&packed.text, PACK_ROOM)?;
+            demand(answer == packed.table.len() as u64, || {
+                format!("packed: {:#x}", answer)
+            })?;
+            demand(lab.check(&packed.text, &packed.table)? == 0, || {
+                "the table is accepted".to_string()
+            })
+        })?;
+        words_over(run, &packed, 100_000)?;
+    }
     Ok(())
 }
 

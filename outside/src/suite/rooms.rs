@@ -6,7 +6,7 @@ use outside::fence::Place;
 use outside::lab::{Lab, Mismatch};
 use outside::make::{damage, exceptions, gauges, lists, words};
 use outside::reference::{
-    self, Gauge, EXCEPTION_TEXT_LIMIT, PACK_ROOM, PATTERN_TEXT_LIMIT, WIDTHS,
+    self, Gauge, APOSTROPHE, EXCEPTION_TEXT_LIMIT, PACK_ROOM, PATTERN_TEXT_LIMIT, WIDTHS,
 };
 use outside::rng::Rng;
 use tteolmigu::{any, Breaks, Exceptions, Ground, Levels, Line, List, Margins, Table};
@@ -53,7 +53,7 @@ fn one_size(lab: &mut Lab, nine: &Packed, size: usize) -> Result<(), Mismatch> {
 /// An exception text that is good, bad or over its limit.
 fn any_exceptions(rng: &mut Rng) -> Vec<u8> {
     let count = rng.range(0, 6);
-    let good = exceptions::good(rng, &[1, 2], count);
+    let good = exceptions::good(rng, &[1, 2, APOSTROPHE], count);
     match rng.below(6) {
         0 | 1 => exceptions::bad(rng, &good),
         2 if rng.once_in(3) => vec![*rng.pick(b"a\n"); EXCEPTION_TEXT_LIMIT + 1],
@@ -78,7 +78,7 @@ fn any_word(rng: &mut Rng) -> Vec<u8> {
         words::bad(rng, &[1, 2])
     } else {
         let length = rng.range(1, 6);
-        words::good(rng, &[1, 2], length)
+        words::good(rng, &[1, 2, APOSTROPHE], length)
     }
 }
 
@@ -138,14 +138,23 @@ pub fn fences(run: &mut Run) -> Result<(), Mismatch> {
                 lab.check(&NINE[..length], &nine.table)?;
                 lab.pack(&NINE[..length], PACK_ROOM)?;
             }
-            let list = b"a-b\nab-c\nb\nba-b-a\nhyphenatio\nhy-phenation\n";
+            let list = b"a-b\nab-c\na'-b\nb\nba-b-a\nhyphenatio\nhy-phenation\n";
             for length in 0..=list.len() {
-                for word in [&b"hyphenation"[..], b"ab", b"b", b"zz"] {
+                for word in [
+                    &b"hyphenation"[..],
+                    b"ab",
+                    b"b",
+                    b"zz",
+                    b"a'b",
+                    b"a'",
+                    b"'b",
+                ] {
                     lab.lookup(word, &list[..length], b"")?;
                     lab.lookup(word, b"", &list[..length])?;
                     lab.hyphenate(1, 1, word, &list[..length], list, &nine.table, 64)?;
                 }
             }
+            elisions(lab)?;
             for length in 0..=64 {
                 let gauge = Gauge {
                     hyphen: 0.5,
@@ -159,6 +168,30 @@ pub fn fences(run: &mut Run) -> Result<(), Mismatch> {
         }
         Ok(())
     })
+}
+
+/// Words that end with an apostrophe or right behind one: what would decide
+/// about it may not be read.
+fn elisions(lab: &mut Lab) -> Result<(), Mismatch> {
+    let elision = Packed::of_text(b"l'1e\n");
+    let word = b"l'entrata'x";
+    for begin in 0..3 {
+        for end in begin..=word.len() {
+            let part = &word[begin..end];
+            lab.levels(part, &elision.table, 64)?;
+            lab.hyphenate(1, 1, part, b"", b"l-'en\n", &elision.table, 64)?;
+            lab.lookup(part, b"l-'en\n", b"")?;
+        }
+    }
+    for text in [&b"l'1e\n'a1\n"[..], b"a1'\n", b"'a'1\n", b"''1\n"] {
+        for begin in 0..text.len() {
+            for end in begin..=text.len() {
+                lab.check(&text[begin..end], &elision.table)?;
+                lab.lookup(b"a", &text[begin..end], b"")?;
+            }
+        }
+    }
+    Ok(())
 }
 
 /// Links and outputs that lead out of tables of many small sizes.
@@ -176,6 +209,7 @@ fn past_ends(lab: &mut Lab) -> Result<(), Mismatch> {
             for word in [
                 &b"abcdefghijklmnopqrstuvwxyz"[..],
                 b"zyxwvutsrqponm",
+                b"a'b'c'z",
                 b"a",
                 b"ll",
             ] {

@@ -9,7 +9,9 @@ use outside::make::lists::{self, Shape};
 use outside::make::{damage, derive, random, words};
 use outside::reference::right::Judge;
 use outside::reference::text::{read_patterns, write_patterns};
-use outside::reference::{Pattern, CELL_LIMIT, ENTRY_LIMIT, PATTERN_TEXT_LIMIT};
+use outside::reference::{
+    Pattern, APOSTROPHE, CELL_LIMIT, EDGE, ENTRY_LIMIT, PATTERN_TEXT_LIMIT, SYMBOLS,
+};
 use outside::rng::Rng;
 
 /// Has a table checked for a list; then words go over it, by the list if it
@@ -59,7 +61,7 @@ pub fn circles(run: &mut Run) -> Result<(), Mismatch> {
             Some(table) => table,
             None => return Ok(()),
         };
-        let alphabet = [1, 2, 3];
+        let alphabet = [1, 2, 3, APOSTROPHE];
         match machine.list() {
             Some(list) if write_patterns(&list).len() <= 32_768 => {
                 check_and_use(lab, rng, &list, &alphabet, &table, 3)?;
@@ -110,12 +112,13 @@ fn letters_in_a_circle(lab: &mut Lab) -> Result<(), Mismatch> {
     Ok(())
 }
 
-/// A table in which every string whatever is a path: 27 cells that all lead
-/// to the same 27 cells. A checker that listed all paths would never end.
+/// A table in which every string whatever is a path, or every one without
+/// apostrophes: 28 or 27 cells that all lead to the same ones. A checker that
+/// listed all paths would never end.
 pub fn all_symbols_in_a_circle(run: &mut Run) -> Result<(), Mismatch> {
     run.rounds(2_000, |lab, rng| {
-        let mut table = blank(56, 1);
-        for cell in 1..=27u8 {
+        let mut table = blank(57, 1);
+        for cell in 1..=*rng.pick(&[EDGE, SYMBOLS]) {
             for base in [0, 28] {
                 let place = 6 + 6 * (base + cell as usize);
                 table[place + 1] = cell;
@@ -125,7 +128,7 @@ pub fn all_symbols_in_a_circle(run: &mut Run) -> Result<(), Mismatch> {
         }
         let entry = table.len() - 5;
         table[entry + 1..].copy_from_slice(&[rng.range(0, 2) as u8, 3, 0, 0]);
-        let alphabet: Vec<u8> = (1..=26).collect();
+        let alphabet = words::all_symbols();
         for count in [0, 1, 20] {
             let shape = Shape {
                 alphabet: alphabet.clone(),
@@ -219,11 +222,11 @@ pub fn derived_lists(run: &mut Run) -> Result<(), Mismatch> {
         if write_patterns(&list).len() > PATTERN_TEXT_LIMIT {
             return Ok(());
         }
-        let alphabet: Vec<u8> = (1..=3).collect();
+        let alphabet = [1, 2, 3, APOSTROPHE];
         let accepted = check_and_use(lab, rng, &list, &alphabet, &table, 1)?;
         // No other list can be right for it.
         let shape = Shape {
-            alphabet: alphabet.clone(),
+            alphabet: alphabet.to_vec(),
             ..Shape::any(rng)
         };
         let mut other = list.clone();
@@ -342,11 +345,21 @@ pub fn every_byte_of_nine(run: &mut Run) -> Result<(), Mismatch> {
     })
 }
 
+/// Every damage of one byte to the first-fit table of patterns with apostrophes.
+pub fn every_byte_of_elisions(run: &mut Run) -> Result<(), Mismatch> {
+    let packed = Packed::of_text(b"l'1e\nt2.\nt'1\n'2e\n'e1n'\n");
+    run.once(|lab, _| {
+        let words: [&[u8]; 3] = [b"l'entrat", b"t'en't'l", b"len"];
+        every_byte(lab, &packed.text, &packed.table, &words)
+    })
+}
+
 /// Every damage of one byte to random tables laid out otherwise.
 pub fn every_byte_of_odd_ones(run: &mut Run) -> Result<(), Mismatch> {
     run.rounds(36, |lab, rng| {
+        let alphabet = *rng.pick(&[&[1, 2][..], &[1, APOSTROPHE], &[1, 2, APOSTROPHE]]);
         let shape = Shape {
-            alphabet: vec![1, 2],
+            alphabet: alphabet.to_vec(),
             count: rng.range(3, 9),
             longest: 4,
             edges: 3,
@@ -367,7 +380,7 @@ pub fn every_byte_of_odd_ones(run: &mut Run) -> Result<(), Mismatch> {
             Some(table) => table,
             None => return Ok(()),
         };
-        let word = words::from_patterns(rng, &list, &[1, 2]);
+        let word = words::from_patterns(rng, &list, alphabet);
         every_byte(lab, &write_patterns(&list), &table, &[&word])
     })
 }
@@ -376,7 +389,7 @@ pub fn every_byte_of_odd_ones(run: &mut Run) -> Result<(), Mismatch> {
 pub fn random_tables(run: &mut Run) -> Result<(), Mismatch> {
     run.rounds(420_000, |lab, rng| {
         let letters = rng.range(1, 4);
-        let alphabet: Vec<u8> = (1..=letters as u8).collect();
+        let alphabet: Vec<u8> = (1..=letters as u8).chain([APOSTROPHE]).collect();
         let table = random::table(rng, letters);
         words_by_walk(lab, rng, &[], &alphabet, &table, 3)?;
         let shape = Shape {
@@ -523,12 +536,15 @@ pub fn high_links(run: &mut Run) -> Result<(), Mismatch> {
             table[place..place + 5].copy_from_slice(&[3, 0, entry as u8, 0, 0]);
         }
         let first = rng.range(2, 26);
-        let second = rng.range(1, 26);
+        let second = match rng.below(4) {
+            0 => APOSTROPHE as usize,
+            _ => rng.range(1, 26),
+        };
         let link = match rng.below(4) {
-            0 => 65_536 - rng.range(1, 27),
-            1 => 32_768 - rng.range(0, 27),
-            2 => cells.saturating_sub(rng.range(0, 27)).max(1),
-            _ => 8_192 - rng.range(0, 27),
+            0 => 65_536 - rng.range(1, 28),
+            1 => 32_768 - rng.range(0, 28),
+            2 => cells.saturating_sub(rng.range(0, 28)).max(1),
+            _ => 8_192 - rng.range(0, 28),
         };
         let mut put = |cell: usize, symbol: usize, link: usize, output: u8| {
             let place = 6 + 6 * cell;
@@ -589,8 +605,9 @@ pub fn past_the_cells(run: &mut Run) -> Result<(), Mismatch> {
 /// followed nor judged.
 pub fn sixteen_symbols(run: &mut Run) -> Result<(), Mismatch> {
     run.rounds(24_000, |lab, rng| {
+        let alphabet = *rng.pick(&[&[1][..], &[1, 2], &[1, APOSTROPHE]]);
         let shape = Shape {
-            alphabet: (1..=rng.range(1, 2) as u8).collect(),
+            alphabet: alphabet.to_vec(),
             count: rng.range(1, 12),
             longest: 16,
             edges: *rng.pick(&[0, 2]),
