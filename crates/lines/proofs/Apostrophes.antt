@@ -9,9 +9,9 @@ use native.Mathlib.Numerals.{add-one}
 use native.Mathlib.Omega.{arith}
 use native.Mathlib.Decide.{decLt}
 use borrow.Author.Tests.{le-leb, lt-leb, eq-eqb, ne-eqb, eqb-true, eqb-false}
-use lib.Dec.{leb, eqb}
+use lib.Dec.{eqb}
 use lib.ListN.{length, getD, drop}
-use Rattle.base.specs.Limits.{patternLimit, letterLimit, edge, apostropheSymbol}
+use Rattle.base.specs.Limits.{letterLimit, edge, apostropheSymbol}
 use Rattle.base.proofs.Lists.{never, both}
 use Rattle.words.specs.Symbols.{lineFeed, dot, apostrophe, small, digit, symbolOf, symbolsOf}
 use Rattle.words.proofs.Laws.{small-low, small-high, symbol-small, symbol-dot, symbol-apostrophe, small-symbol, symbols-skip, symbols-keep, other-symbol, digit-not-dot, digit-not-apostrophe}

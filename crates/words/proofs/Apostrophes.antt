@@ -3,20 +3,18 @@
 use Prim.Native.Nat.{ℕ, zero, suc, _+_, _-_, _≤_, _<_}
 use mathlib.Core.Bool.{Bool, true, false, cond, _&&_, _||_, or-true, or-false}
 use mathlib.Core.List.{List, [], _∷_}
-use mathlib.Core.Logic.{_⊎_, inl, inr, _↔_}
+use mathlib.Core.Logic.{inl, inr, _↔_}
 use mathlib.Core.Path.{_≡_, refl, sym, _∙_, ap}
 use native.Mathlib.Numerals.{add-one}
 use native.Mathlib.Omega.{arith}
-use borrow.Author.Tests.{eq-eqb, ne-eqb, eqb-true, lt-leb}
-use lib.Dec.{leb, eqb}
+use borrow.Author.Tests.{eq-eqb, ne-eqb, eqb-true}
+use lib.Dec.{eqb}
 use lib.ListN.{length, getD, drop}
-use Rattle.base.specs.Grounds.{first}
-use Rattle.base.specs.declared.Check.{Check}
 use Rattle.base.specs.declared.Check.the-variants.{Fine, Refused}
 use Rattle.base.specs.declared.Ground.the-variants.{NotLetter}
 use Rattle.base.proofs.Lists.{clash, never, both}
 use Rattle.words.specs.Symbols.{apostrophe, small, capital, letter}
-use Rattle.words.specs.Words.{Rule, lettersAlone, startsLetter, isBetween, withApostrophes, leading, allFit, judgeLength, judgeBy, judgeWord, judgeLetters, MayStand}
+use Rattle.words.specs.Words.{Rule, lettersAlone, startsLetter, isBetween, withApostrophes, leading, allFit, judgeBy, judgeWord, judgeLetters, MayStand}
 use Rattle.words.proofs.Laws.{length-fine, judged-bytes, word-some, word-fits}
 
 -- Does a letter stand right before place i, `after` telling of place 0?
