@@ -16,7 +16,7 @@ mod handmade;
 
 use outside::make::{affixes, damage, exceptions, gauges, lists, random, words};
 use outside::reference::text::{read_patterns, write_patterns};
-use outside::reference::{self, Gauge, Pattern, Seen, PACK_ROOM, WIDTHS};
+use outside::reference::{self, Gauge, Pattern, Seen, APOSTROPHE, PACK_ROOM, WIDTHS};
 use outside::rng::Rng;
 use std::time::Instant;
 use tteolmigu::raw;
@@ -455,7 +455,10 @@ fn main() {
         words.truncate(COUNTED);
     }
     let few = &words[..(words.len() + FEW - 1) / FEW];
-    let full = exceptions::exact(&mut Rng::new(8_192), 8_192);
+    let mut letters: Vec<u8> = (1..=25).collect();
+    let full = exceptions::exact(&mut Rng::new(8_192), &letters, 8_192);
+    letters.push(APOSTROPHE);
+    let elided = exceptions::exact(&mut Rng::new(8_192), &letters, 8_192);
     let mut table = vec![0; PACK_ROOM];
     let length = raw::pack(&text, &mut table);
     assert!(length >> 56 == 0, "the list isn't packed");
@@ -471,6 +474,7 @@ fn main() {
         hyphenate("hyphenate, empty lists", &words, b"", &table),
         hyphenate("hyphenate, en-us.exc", &words, &house, &table),
         hyphenate("hyphenate, 8,192 bytes", few, &full, &table),
+        hyphenate("hyphenate, apostrophes", few, &elided, &table),
         pack(&text),
         check(&text, &table),
         fit(&words, &rooms),
@@ -484,6 +488,7 @@ fn main() {
     compare_random(40_000);
     compare(&words, &house, &text, &table);
     compare(few, &full, &text, &table);
+    compare(few, &elided, &text, &table);
     compare_widths(&words, &rooms);
     compare_archive(&words);
     println!("{} words, {} rounds, answers agree", words.len(), rounds);

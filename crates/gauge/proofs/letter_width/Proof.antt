@@ -1,8 +1,8 @@
 use borrow.Author.Needs.{needs}
 use denote.Ref.{now}
 use native.Mathlib.Omega.{arith}
-use Rattle.gauge.proofs.Laws.{apostrophe-is, letter-number, letter-is}
 use Rattle.words.proofs.Laws.{byte-letter}
+use Rattle.gauge.proofs.Laws.{apostrophe-is, letter-number, letter-is}
 use Rattle.gauge.proofs.letter_width.Statement.{statement}
 use Rattle.gauge.proofs.letter_width.Tie as tie
 

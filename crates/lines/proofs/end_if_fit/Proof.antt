@@ -1,6 +1,6 @@
 use borrow.Author.Needs.{needs}
-use Rattle.lines.proofs.Laws.{end-bad, end-good, fit-none, fit-some}
 use mathlib.Core.Path.{refl}
+use Rattle.lines.proofs.Laws.{end-bad, end-good, fit-none, fit-some}
 use Rattle.lines.proofs.end_if_fit.Statement.{statement}
 use Rattle.lines.proofs.end_if_fit.Tie as tie
 
