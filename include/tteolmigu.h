@@ -28,8 +28,8 @@
  * a double and no two operations become one; tests/floats holds it to that.
  *
  * Stack. Pack takes at most TTEOLMIGU_PACK_STACK bytes, 1980 at most TTEOLMIGU_1980_STACK and every other call at most
- * TTEOLMIGU_STACK, whatever texts and tables hold; as compiled today these are 18,764 bytes for pack, 1,136 for 1980, 568 for hyphenate,
- * 376 for levels, 348 for check, 252 for lookup and at most 64 for fit. No function calls itself, so that a chain of 2,048 entries
+ * TTEOLMIGU_STACK, whatever texts and tables hold; as compiled today these are 18,708 bytes for pack, 1,136 for 1980, 552 for hyphenate,
+ * 376 for levels, 340 for check, 244 for lookup and at most 64 for fit. No function calls itself, so that a chain of 2,048 entries
  * takes no more than a single entry. This isn't proved; tests/stack holds the archive to it, with the longest chains and the fullest
  * lists. Where a program's symbols are bound lazily, the loader takes stack of its own besides, once, at the first memset or memcpy.
  *
