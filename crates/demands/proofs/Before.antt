@@ -4,14 +4,14 @@ use mathlib.Core.Bool.{Bool, true, false, cond, not, _&&_, _||_, and-false}
 use mathlib.Core.List.{List, [], _∷_, map}
 use mathlib.Core.Path.{_≡_, refl, sym, _∙_, ap}
 use native.Mathlib.Omega.{arith}
-use borrow.Author.Tests.{ne-eqb, eqb-true, eqb-false}
+use borrow.Author.Tests.{ne-eqb, eqb-false}
 use lib.Dec.{leb, ltb, eqb}
 use lib.ListN.{getD}
 use Rattle.base.specs.Limits.{apostropheSymbol, symbolLimit, patternLimit, cellLimit}
 use Rattle.base.specs.Tests.{allFrom, smallest}
 use Rattle.base.proofs.Lists.{never, both}
-use Rattle.words.specs.Symbols.{lineFeed, dot, apostrophe, small, symbolOf, symbolsOf}
-use Rattle.words.proofs.Laws.{small-high, symbol-small, symbol-dot, symbol-none}
+use Rattle.words.specs.Symbols.{lineFeed, apostrophe, symbolOf, symbolsOf}
+use Rattle.words.proofs.Apostrophes.{sorts-last}
 use Rattle.lines.specs.Apostrophes.{hasApostrophe}
 use Rattle.lines.specs.Lines.{glue, cut}
 use Rattle.liang.specs.Patterns.{Pattern, patternOf, patternsOf}
@@ -135,15 +135,6 @@ pub fit-more : (n : ℕ) (patterns : List Pattern) → lackAll (suc n) patterns 
 unfolding firstFitOver
 fit-more n patterns e = ap (fitLayout patterns) (lengths-more n rootBase 0 patternLimit patterns emptyLayout e)
 
--- a byte that is no apostrophe is not symbol 28
-other-symbol : (b : ℕ) → (b ≡ apostrophe → ⊥) → symbolOf b ≡ apostropheSymbol → ⊥
-other-symbol b q e = go (small b) refl (eqb b dot) refl
-  where
-    go : (z : Bool) → small b ≡ z → (d : Bool) → eqb b dot ≡ d → ⊥
-    go true p d r = omega (arith, e, symbol-small b p, small-high b p)
-    go false p true r = omega (arith, e, symbol-dot b p (eqb-true b dot r))
-    go false p false r = omega (arith, e, symbol-none b p (eqb-false b dot r) q)
-
 -- a text without byte 39 is a list without it
 line-lacks : (b : ℕ) (l : List ℕ) → (b ≡ apostrophe → ⊥) → lacks apostropheSymbol (symbolsOf l) ≡ true → lacks apostropheSymbol (symbolsOf (b ∷ l)) ≡ true
 unfolding lacks symbolsOf
@@ -151,7 +142,7 @@ line-lacks b l q h = go (eqb (symbolOf b) 0)
   where
     go : (z : Bool) → lacks apostropheSymbol (cond z (symbolsOf l) (symbolOf b ∷ symbolsOf l)) ≡ true
     go true = h
-    go false = rw (ne-eqb (symbolOf b) apostropheSymbol (other-symbol b q)) h
+    go false = rw (ne-eqb (symbolOf b) apostropheSymbol (λ e. omega (arith, e, sorts-last b q))) h
 
 nil-lacks : lacks apostropheSymbol (symbolsOf []) ≡ true
 unfolding lacks symbolsOf

@@ -7,15 +7,16 @@ use mathlib.Core.Logic.{inl, inr, _↔_}
 use mathlib.Core.Path.{_≡_, refl, sym, _∙_, ap}
 use native.Mathlib.Numerals.{add-one}
 use native.Mathlib.Omega.{arith}
-use borrow.Author.Tests.{eq-eqb, ne-eqb, eqb-true}
+use borrow.Author.Tests.{eq-eqb, ne-eqb, eqb-true, eqb-false}
 use lib.Dec.{eqb}
 use lib.ListN.{length, getD, drop}
+use Rattle.base.specs.Limits.{apostropheSymbol}
 use Rattle.base.specs.declared.Check.the-variants.{Fine, Refused}
 use Rattle.base.specs.declared.Ground.the-variants.{NotLetter}
 use Rattle.base.proofs.Lists.{clash, never, both}
-use Rattle.words.specs.Symbols.{apostrophe, small, capital, letter}
+use Rattle.words.specs.Symbols.{dot, apostrophe, small, capital, letter, symbolOf}
 use Rattle.words.specs.Words.{Rule, lettersAlone, startsLetter, isBetween, withApostrophes, leading, allFit, judgeBy, judgeWord, judgeLetters, MayStand}
-use Rattle.words.proofs.Laws.{length-fine, judged-bytes, word-some, word-fits}
+use Rattle.words.proofs.Laws.{small-high, symbol-small, symbol-dot, symbol-none, length-fine, judged-bytes, word-some, word-fits}
 
 -- Does a letter stand right before place i, `after` telling of place 0?
 abbrev behindLetter : Bool → List ℕ → ℕ → Bool
@@ -125,6 +126,15 @@ word-exactly limit w = (
       rw (← length-fine limit (length w) (λ z. omega (arith, z, p .0)) (p .1))
       (each-all withApostrophes 0 false w (λ i h. stand-fits w i (p .2 i h))),
 )
+
+-- "28 sorts last": every other byte's symbol is lower.
+pub sorts-last : (b : ℕ) → (b ≡ apostrophe → ⊥) → symbolOf b < apostropheSymbol
+sorts-last b q = go (small b) refl (eqb b dot) refl
+  where
+    go : (z : Bool) → small b ≡ z → (d : Bool) → eqb b dot ≡ d → symbolOf b < apostropheSymbol
+    go true p d r = omega (arith, symbol-small b p, small-high b p)
+    go false p true r = omega (arith, symbol-dot b p (eqb-true b dot r))
+    go false p false r = omega (arith, symbol-none b p (eqb-false b dot r) q)
 
 -- A word without an apostrophe is judged as letters alone are.
 abbrev Plain : List ℕ → Type 0
