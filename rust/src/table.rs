@@ -136,7 +136,7 @@ impl<'a> Table<'a> {
     /// let mut room = [0; PACK_ROOM];
     /// let table = Table::pack(b"1na\n1ti\n", &mut room)?;
     /// assert_eq!(table.levels(b"nation")?.as_slice(), [0, 1, 0, 0, 0]);
-    /// assert_eq!(table.levels(b"na'tion"), Err(Ground::NotLetter { place: 2 }));
+    /// assert_eq!(table.levels(b"nation'"), Err(Ground::NotLetter { place: 6 }));
     /// # Ok::<(), Ground>(())
     /// ```
     ///

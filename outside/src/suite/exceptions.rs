@@ -210,12 +210,14 @@ pub fn all_bytes(run: &mut Run) -> Result<(), Mismatch> {
 /// Texts of exactly the most bytes, and one byte more, as either list.
 pub fn text_limit(run: &mut Run) -> Result<(), Mismatch> {
     let table = Packed::of_text(NINE).table;
+    let mut alphabet = words::all_symbols();
+    alphabet.retain(|&symbol| words::small(symbol) != b'z');
     run.rounds(1_200, |lab, rng| {
         let bytes = EXCEPTION_TEXT_LIMIT + rng.below(2);
-        let full = make::exact(rng, bytes);
+        let full = make::exact(rng, &alphabet, bytes);
         let other = match rng.below(4) {
-            0 => make::exact(rng, EXCEPTION_TEXT_LIMIT),
-            1 => make::exact(rng, EXCEPTION_TEXT_LIMIT + 1),
+            0 => make::exact(rng, &alphabet, EXCEPTION_TEXT_LIMIT),
+            1 => make::exact(rng, &alphabet, EXCEPTION_TEXT_LIMIT + 1),
             2 => b"b\na\n".to_vec(),
             _ => Vec::new(),
         };
