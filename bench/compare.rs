@@ -5,9 +5,10 @@
 //! Usage: compare [--rounds N] [--count FUNCTION]
 //!
 //! Before a clock starts, both sides have to answer alike: on all pairs that
-//! are measured, and on pairs of short texts of any bytes. Then they go in turn
-//! over the same pairs, and each goes first in every other round. A ratio is
-//! the time now over the time before, as the median of the rounds' ratios.
+//! are measured, and on pairs of short texts of any other bytes than
+//! apostrophes. Then they go in turn over the same pairs, and each goes first in
+//! every other round. A ratio is the time now over the time before, as the
+//! median of the rounds' ratios.
 //!
 //! With --count one function of one side goes once over fewer of the same, for
 //! callgrind to count.
