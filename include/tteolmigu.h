@@ -5,17 +5,21 @@
  *
  *     cc -std=c99 -Iinclude program.c target/staticlib/libtteolmigu.a -o program
  *
- * The archive is for x86-64 Linux and needs nothing of the C library but memcpy and memset. No call allocates, keeps state, or reads or
- * writes anything but the memory that it is lent, so any number of threads may call at once as long as no two of them share a room.
+ * The archive is for x86-64 Linux and needs nothing of the C library but memcpy and memset. No call allocates, keeps anything of its own
+ * for a later call, or reads or writes anything but the memory that it is lent: what a running text needs from piece to piece stands in
+ * a state that the caller lends. So any number of threads may call at once as long as no two of them share a room or a state.
  *
- * Lent memory. Every text, table and room is a pointer and a size in bytes. A pointer must not be null, even where the size is 0, and
- * must have as many bytes as the size says. Only 'room' is written, and by tteolmigu_fit not even that; where it is written, it must
- * not overlap any other argument. Texts and tables may hold any bytes, and widths any doubles: each call ends with a finding or with a
- * numbered refusal, whatever they hold.
+ * Lent memory. Every text, table and room is a pointer and a size in bytes; a state is a pointer to TTEOLMIGU_STATE bytes. A pointer must
+ * not be null, even where the size is 0, and must have as many bytes as the size says. Only 'room' is written, by tteolmigu_piece and
+ * tteolmigu_end also 'state', and by tteolmigu_fit nothing; what is written must not overlap any other argument. Texts, tables and
+ * states may hold any bytes, and widths any doubles: each call ends with a finding or with a numbered refusal, whatever they hold.
  *
  * Words. A word's bytes are letters, a to z and A to Z, and apostrophes (byte 39), each between two letters; capitals count as small,
  * and an apostrophe counts as a letter, for limits, margins and gaps alike. Any other byte, and an apostrophe elsewhere, is ground 3.
  * tteolmigu_1980 takes letters alone.
+ *
+ * Running text. tteolmigu_piece and tteolmigu_end take a whole text, in pieces that end anywhere, and find its words themselves; any byte
+ * may stand between these. What is left open at the end of a piece stands in the state.
  *
  * Tables. A table is a head of 6 bytes, then C cells of 6 bytes each, then E entries of 5 bytes each, and nothing behind. Bytes 0 and 1
  * are the head's kind and the edition, both 1. Bytes 2 and 3 tell C and bytes 4 and 5 tell E, each with the high byte first. The length
@@ -27,11 +31,12 @@
  * trip) must change it back before it calls tteolmigu_fit. The archive adds with SSE2's addsd alone, so that nothing is kept wider than
  * a double and no two operations become one; tests/floats holds it to that.
  *
- * Stack. Pack takes at most TTEOLMIGU_PACK_STACK bytes, 1980 at most TTEOLMIGU_1980_STACK and every other call at most
- * TTEOLMIGU_STACK, whatever texts and tables hold; as compiled today these are 18,708 bytes for pack, 1,136 for 1980, 552 for hyphenate,
- * 376 for levels, 340 for check, 244 for lookup and at most 64 for fit. No function calls itself, so that a chain of 2,048 entries
- * takes no more than a single entry. This isn't proved; tests/stack holds the archive to it, with the longest chains and the fullest
- * lists. Where a program's symbols are bound lazily, the loader takes stack of its own besides, once, at the first memset or memcpy.
+ * Stack. Pack takes at most TTEOLMIGU_PACK_STACK bytes, piece and end at most TTEOLMIGU_PIECE_STACK, 1980 at most TTEOLMIGU_1980_STACK
+ * and every other call at most TTEOLMIGU_STACK, whatever texts and tables hold; as compiled today these are 18,708 bytes for pack, 1,368
+ * for piece, 1,288 for end, 1,136 for 1980, 760 for hyphenate, 376 for levels, 372 for check, 244 for lookup and at most 64 for fit. No
+ * function calls itself, so that a chain of 2,048 entries takes no more than a single entry, and a long piece no more than a short one.
+ * This isn't proved; tests/stack holds the archive to it, with the longest chains and the fullest lists. Where a program's symbols are
+ * bound lazily, the loader takes stack of its own besides, once, at the first memset or memcpy.
  *
  * Answers. Each call returns one number of 64 bits. Bits 56 to 63 are 0 for a finding, else the number of the ground on which the call
  * refuses. A refusal tells in bits 48 to 55 the exception list it speaks of (1 the customer's, 2 the house's, 0 none) and in bits 0 to
@@ -50,10 +55,11 @@
  *   10  the pack room has fewer than 59,398 bytes
  *   11  the table of this list would need more than 8,192 cells or 2,048 entries
  *   12  the table isn't right for the list
- *   13  a width outside 0 to 1,000, or not a number: the hyphen's, the line's one of the 26 letters' or the
- *       apostrophe's
+ *   13  a width outside 0 to 1,000, or not a number: the hyphen's, the line's, one of the 26 letters' or the apostrophe's
+ *   14  the room for running text has fewer than three bytes for each byte held or in the piece
+ *   21  the piece takes the running text past 1,048,576 bytes
  *
- * A refusal leaves the room as it was, but for ground 11, which sets the room's first 59,398 bytes to zero.
+ * A refusal leaves room and state as they were, but for ground 11, which sets the room's first 59,398 bytes to zero.
  */
 #ifndef TTEOLMIGU_H
 #define TTEOLMIGU_H
@@ -67,7 +73,7 @@ extern "C" {
 
 /* The version of this header and of the library that it declares. A later one has a greater TTEOLMIGU_VERSION. */
 #define TTEOLMIGU_VERSION_MAJOR 2
-#define TTEOLMIGU_VERSION_MINOR 0
+#define TTEOLMIGU_VERSION_MINOR 1
 #define TTEOLMIGU_VERSION_PATCH 0
 #define TTEOLMIGU_VERSION (TTEOLMIGU_VERSION_MAJOR * 1000000 + TTEOLMIGU_VERSION_MINOR * 1000 + TTEOLMIGU_VERSION_PATCH)
 
@@ -80,6 +86,11 @@ extern "C" {
 #define TTEOLMIGU_MARGIN_LEAST 1u   /* a margin, at least */
 #define TTEOLMIGU_MARGIN_LIMIT 63u  /* a margin, at most */
 #define TTEOLMIGU_LOOK_LIMIT 1040u  /* cells looked at for a word, at most: 16 * (63 + 2) */
+
+/* Running text. */
+#define TTEOLMIGU_STATE 72u              /* bytes of a state: 8 and TTEOLMIGU_WORD_LIMIT + 1 */
+#define TTEOLMIGU_RUNNING_TEXT 1048576u  /* bytes of a running text, at most */
+#define TTEOLMIGU_ROOM_PER_BYTE 3u       /* bytes of its room for each byte held or in the piece, at least */
 
 /* The table machine of 1980, which has numbers of its own. */
 #define TTEOLMIGU_1980_ROOM 64u     /* its break room has at least so many bytes */
@@ -113,6 +124,7 @@ extern "C" {
 /* Stack in bytes that a call takes at most: what tests/stack sees, with some air. */
 #define TTEOLMIGU_STACK 1024u        /* hyphenate, levels, check, lookup and fit */
 #define TTEOLMIGU_PACK_STACK 20480u  /* pack, which has its arrays there */
+#define TTEOLMIGU_PIECE_STACK 2048u  /* piece and end */
 #define TTEOLMIGU_1980_STACK 1536u   /* 1980, which has its tables there */
 
 /* The numbers of the grounds, as listed above. */
@@ -129,7 +141,9 @@ enum tteolmigu_ground {
     TTEOLMIGU_PACK_ROOM_SHORT = 10,
     TTEOLMIGU_NO_FIT = 11,
     TTEOLMIGU_NOT_RIGHT = 12,
-    TTEOLMIGU_BAD_WIDTH = 13
+    TTEOLMIGU_BAD_WIDTH = 13,
+    TTEOLMIGU_TEXT_ROOM_SHORT = 14,
+    TTEOLMIGU_RUNNING_LONG = 21
 };
 
 /* What tteolmigu_fit finds. */
@@ -205,12 +219,65 @@ uint64_t tteolmigu_fit(double hyphen, double line, const double *widths,
  * Breaks a word as the table machine of 1980 does, for archive reprints: suffixes, prefixes and pairs of consonants by its own tables,
  * without a list of exceptions. Words of 1 to 4 letters have no break and execute nothing; of a longer one with n letters a hyphen
  * stands before letters 3 to n - 2 alone. An apostrophe is ground 3 wherever it stands. Grounds 5, 2, 4, 3, in this order. A finding
- * sets byte i of the room to 1 where a break lies after letter i, the other bytes up to 63 to 0, and leaves later ones alone. tteolmigu_1980_breaks has the number of breaks,
- * tteolmigu_1980_executed that of the instructions, of both tables together. If more than 20,000 were needed the machine would run
- * out, and leave the room as it was; tteolmigu_1980_ran_out tells it.
+ * sets byte i of the room to 1 where a break lies after letter i, the other bytes up to 63 to 0, and leaves later ones alone.
+ * tteolmigu_1980_breaks has the number of breaks, tteolmigu_1980_executed that of the instructions, of both tables together. If more than
+ * 20,000 were needed the machine would run out, and leave the room as it was; tteolmigu_1980_ran_out tells it.
  */
 uint64_t tteolmigu_1980(const uint8_t *word, size_t word_size,
                         uint8_t *room, size_t room_size);
+
+/*
+ * Takes the next piece of a running text, and writes what is settled of it to the room's beginning, with a backslash and a hyphen in each
+ * break.
+ *
+ * A word of a running text is a run of letters and of apostrophes that each stand between two letters, as long as it can be. One of at
+ * most TTEOLMIGU_WORD_LIMIT bytes is broken as tteolmigu_hyphenate breaks it; a longer one goes through as it is. So does every byte
+ * outside a word: apostrophes elsewhere, bytes over 127, zeros, and the backslashes and hyphens that the text has already.
+ *
+ * A piece may end anywhere, and may be empty. At its end exactly the unfinished word is held, and behind it an apostrophe, if one stands
+ * there, since only the next byte says whether that belongs to the word. A word that grows past TTEOLMIGU_WORD_LIMIT is let go: all that
+ * is held of it is written at once, and so is each later byte of it, an apostrophe too. So what the calls write, one behind the other,
+ * and the sum of what they count don't depend on where the text is cut, from its first piece to its end, as long as margins, lists and
+ * table stay the same. They may change from call to call, and a held word is judged by those of the call that finishes it.
+ *
+ * 'state' points to TTEOLMIGU_STATE bytes. Before the first piece they are all 0, and so tteolmigu_end leaves them. Between two calls
+ * they may be copied, stored, and used elsewhere:
+ *
+ *    byte 0        how many bytes are held, a waiting apostrophe among them
+ *    byte 1        1 inside a word that was let go, 2 where an apostrophe is the last byte of that so far, else 0
+ *    bytes 2 to 5  how many bytes the text has so far, those held among them; the high byte first
+ *    bytes 6, 7    0
+ *    from 8 on     the held bytes as they were read, and zeros behind them
+ *
+ * What these calls leave has nothing held, or a good word, alone or with one apostrophe behind it, and nothing where byte 1 isn't 0. The
+ * text has at most TTEOLMIGU_RUNNING_TEXT bytes, at least those held, and where byte 1 is 1 at least TTEOLMIGU_WORD_LIMIT + 1, where
+ * it is 2 one more. Any other bytes are read as a new text's, as if all were 0.
+ *
+ * Grounds 1, 8, 6, 9, 21, 14, in this order, with the customer's list before the house's in 8 and in 6. Ground 21: the text would have
+ * more than TTEOLMIGU_RUNNING_TEXT bytes; a shorter piece goes on with it. Ground 14: the room has fewer than TTEOLMIGU_ROOM_PER_BYTE
+ * bytes for each byte held before the call, a waiting apostrophe too, and for each of the piece, even where less would do. A refusal
+ * leaves every byte of state and room, also where the state is read as a new text. A finding leaves the room's bytes behind the text.
+ * tteolmigu_text_length has the length of what is written, tteolmigu_looks the cells looked at for the words that this call finished
+ * (0 for one that was let go and where an exception line decides).
+ */
+uint64_t tteolmigu_piece(uint8_t *state, uint64_t left, uint64_t right,
+                         const uint8_t *customer, size_t customer_size,
+                         const uint8_t *house, size_t house_size,
+                         const uint8_t *table, size_t table_size,
+                         const uint8_t *piece, size_t piece_size,
+                         uint8_t *room, size_t room_size);
+
+/*
+ * Ends a running text: writes what is held, the word with its breaks and behind it the apostrophe that waited, and sets the state to 0,
+ * so that the next piece begins a new text. State, room, margins, lists, table and answer are those of tteolmigu_piece. Grounds 1, 8, 6,
+ * 9, 14, in this order; a refusal leaves the text open. A room of TTEOLMIGU_ROOM_PER_BYTE * (TTEOLMIGU_WORD_LIMIT + 1) bytes is enough
+ * for any end.
+ */
+uint64_t tteolmigu_end(uint8_t *state, uint64_t left, uint64_t right,
+                       const uint8_t *customer, size_t customer_size,
+                       const uint8_t *house, size_t house_size,
+                       const uint8_t *table, size_t table_size,
+                       uint8_t *room, size_t room_size);
 
 /* Of every answer: the number of the ground, 0 for a finding. */
 static inline unsigned tteolmigu_number(uint64_t answer)
@@ -236,10 +303,16 @@ static inline unsigned tteolmigu_marks(uint64_t answer)
     return (unsigned)(answer >> 32 & 0xffffu);
 }
 
-/* Of a finding of hyphenate or levels: how many cells were looked at. */
+/* Of a finding of hyphenate, levels, piece or end: how many cells were looked at. */
 static inline uint32_t tteolmigu_looks(uint64_t answer)
 {
     return (uint32_t)(answer & UINT64_C(0xffffffff));
+}
+
+/* Of a finding of piece or end: the length of the text written. */
+static inline size_t tteolmigu_text_length(uint64_t answer)
+{
+    return (size_t)(answer >> 32 & 0xffffffu);
 }
 
 /* Of a finding of pack: the table's length. */

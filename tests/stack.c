@@ -2,8 +2,8 @@
  * The stack that the calls take, on input as hostile as it can be made.
  *
  * Each case runs twice: on the main thread, where its answer must be that of document 01, and in a child, on a thread with little
- * stack, where answer and room must be the same. That stack is lent by the test. It has LIMIT bytes (for pack its arrays' size more)
- * beyond what a thread with nothing to do takes, and below it lies memory that nobody may touch. It is coloured before, so that
+ * stack, where answer, room and state must be the same. That stack is lent by the test. It has LIMIT bytes (for pack its arrays' size
+ * more) beyond what a thread with nothing to do takes, and below it lies memory that nobody may touch. It is coloured before, so that
  * afterwards one sees how deep it was used; no call may take more than the header says.
  */
 #include "tteolmigu.h"
@@ -33,10 +33,13 @@
 #define SYMBOLS 28u
 #define PATTERNS 32768u
 #define EXCEPTIONS 8192u
+#define WORDS 9u        /* words of a piece of running text, behind the one that was held */
+#define LONG_RUN 9000u  /* letters with an apostrophe behind each, for a word that was let go */
 
-enum call { NOTHING, TAKE, HYPHENATE, LEVELS, PACK, CHECK, LOOKUP, FIT, ARCHIVE, CALLS };
+enum call { NOTHING, TAKE, HYPHENATE, LEVELS, PACK, CHECK, LOOKUP, FIT, ARCHIVE, PIECE, END, CALLS };
 
-static const char *const names[CALLS] = {"nothing", "take", "hyphenate", "levels", "pack", "check", "lookup", "fit", "1980"};
+static const char *const names[CALLS] = {"nothing", "take", "hyphenate", "levels", "pack", "check",
+                                         "lookup",  "fit",  "1980",      "piece",  "end"};
 
 struct bytes {
     uint8_t *at;
@@ -48,12 +51,13 @@ struct job {
     enum call call;
     struct bytes word, customer, house, list, table;
     double hyphen, line, widths[TTEOLMIGU_WIDTHS];
+    struct bytes state, piece;
 };
 
 /* What a child tells; its memory is shared with the parent. */
 struct told {
     uint64_t answer;
-    int same_room;
+    int same_room; /* and state */
     size_t thread; /* bytes that the whole thread took */
     size_t below;  /* bytes below the frame of the thread's function, which makes the call */
 };
@@ -62,6 +66,8 @@ static int passed = 0;
 static int failed = 0;
 static uint8_t room[TTEOLMIGU_PACK_ROOM];
 static uint8_t other_room[TTEOLMIGU_PACK_ROOM];
+static uint8_t state[TTEOLMIGU_STATE];
+static uint8_t other_state[TTEOLMIGU_STATE];
 static uint8_t *stack;       /* the lowest byte that may be used */
 static struct told *told;
 static struct told empty;    /* of a thread with nothing to do */
@@ -88,7 +94,7 @@ static __attribute__((noinline)) uint64_t take(size_t size)
     return bytes[0];
 }
 
-static uint64_t make_call(const struct job *job, uint8_t *marks)
+static uint64_t make_call(const struct job *job, uint8_t *marks, uint8_t *flow)
 {
     switch (job->call) {
     case TAKE:
@@ -110,6 +116,12 @@ static uint64_t make_call(const struct job *job, uint8_t *marks)
         return tteolmigu_fit(job->hyphen, job->line, job->widths, job->word.at, job->word.size, marks, TTEOLMIGU_ROOM);
     case ARCHIVE:
         return tteolmigu_1980(job->word.at, job->word.size, marks, TTEOLMIGU_1980_ROOM);
+    case PIECE:
+        return tteolmigu_piece(flow, 1, 1, job->customer.at, job->customer.size, job->house.at, job->house.size, job->table.at,
+                               job->table.size, job->piece.at, job->piece.size, marks, TTEOLMIGU_PACK_ROOM);
+    case END:
+        return tteolmigu_end(flow, 1, 1, job->customer.at, job->customer.size, job->house.at, job->house.size, job->table.at,
+                             job->table.size, marks, TTEOLMIGU_PACK_ROOM);
     default:
         return 0;
     }
@@ -120,8 +132,16 @@ static uint8_t *frame;
 static void *on_thread(void *job)
 {
     frame = __builtin_frame_address(0);
-    told->answer = make_call(job, other_room);
+    told->answer = make_call(job, other_room, other_state);
     return NULL;
+}
+
+/* The state that a case begins with; the others have none. */
+static void set_state(uint8_t *flow, const struct job *job)
+{
+    memset(flow, 0, TTEOLMIGU_STATE);
+    if (job->state.size == TTEOLMIGU_STATE)
+        memcpy(flow, job->state.at, TTEOLMIGU_STATE);
 }
 
 /* In a child: the case on a thread with so many bytes of stack. */
@@ -133,6 +153,7 @@ static int in_child(struct job *job, size_t size)
 
     memset(stack, COLOUR, size);
     memset(other_room, OLD, sizeof other_room);
+    set_state(other_state, job);
     if (pthread_attr_init(&attributes) != 0 || pthread_attr_setstack(&attributes, stack, size) != 0 ||
         pthread_create(&thread, &attributes, on_thread, job) != 0 || pthread_join(thread, NULL) != 0)
         return 1;
@@ -140,7 +161,7 @@ static int in_child(struct job *job, size_t size)
         unused++;
     told->thread = size - unused;
     told->below = (size_t)(frame - (stack + unused));
-    told->same_room = memcmp(room, other_room, sizeof room) == 0;
+    told->same_room = memcmp(room, other_room, sizeof room) == 0 && memcmp(state, other_state, sizeof state) == 0;
     return 0;
 }
 
@@ -171,21 +192,37 @@ static size_t size_for(enum call call)
     return (size + ALIGN - 1) / ALIGN * ALIGN;
 }
 
-/* One case with the answer that it must give. The room is left as on the main thread. */
+/* What the header allows a call. */
+static size_t allowed(enum call call)
+{
+    switch (call) {
+    case PACK:
+        return TTEOLMIGU_PACK_STACK;
+    case ARCHIVE:
+        return TTEOLMIGU_1980_STACK;
+    case PIECE:
+    case END:
+        return TTEOLMIGU_PIECE_STACK;
+    default:
+        return TTEOLMIGU_STACK;
+    }
+}
+
+/* One case with the answer that it must give. Room and state are left as on the main thread. */
 static void one(const char *what, struct job job, uint64_t want)
 {
     const char *name = names[job.call];
-    size_t most_allowed = job.call == PACK ? TTEOLMIGU_PACK_STACK : job.call == ARCHIVE ? TTEOLMIGU_1980_STACK : TTEOLMIGU_STACK;
     int ended;
 
     memset(room, OLD, sizeof room);
-    expect(name, what, "another answer", make_call(&job, room) == want);
+    set_state(state, &job);
+    expect(name, what, "another answer", make_call(&job, room, state) == want);
     ended = apart(&job, size_for(job.call));
     expect(name, what, ended == SIGSEGV ? "the stack runs over" : "no end on a thread", ended == 0);
     /* Where it runs over, more of it shows by how much. */
     if (ended == 0 || apart(&job, WIDE) == 0) {
-        expect(name, what, "another answer or room on a thread", told->answer == want && told->same_room);
-        expect(name, what, "more stack than the header says", told->below <= most_allowed);
+        expect(name, what, "another answer, room or state on a thread", told->answer == want && told->same_room);
+        expect(name, what, "more stack than the header says", told->below <= allowed(job.call));
         if (most[job.call] < told->below)
             most[job.call] = told->below;
         if (beyond[job.call] < told->thread - empty.thread)
@@ -251,6 +288,33 @@ static void reprint(const char *what, struct bytes word, uint64_t want)
     one(what, (struct job){.call = ARCHIVE, .word = word}, want);
 }
 
+/* What a call on running text leaves at the room's beginning, and OLD behind it. */
+static void text_is(const char *what, struct bytes text)
+{
+    size_t rest = text.size;
+
+    while (rest < sizeof room && room[rest] == OLD)
+        rest++;
+    expect("room", what, "another text", rest == sizeof room && memcmp(room, text.at, text.size) == 0);
+}
+
+/* A piece and what it writes and leaves, or neither where it refuses. */
+static void piece(const char *what, struct bytes before, struct bytes text, struct bytes customer, struct bytes house,
+                  struct bytes table, uint64_t want, struct bytes output, struct bytes after)
+{
+    one(what, (struct job){.call = PIECE, .state = before, .piece = text, .customer = customer, .house = house, .table = table}, want);
+    text_is(what, output);
+    expect("state", what, "another one", memcmp(state, after.at, sizeof state) == 0);
+}
+
+static void end(const char *what, struct bytes before, struct bytes customer, struct bytes house, struct bytes table, uint64_t want,
+                struct bytes output, struct bytes after)
+{
+    one(what, (struct job){.call = END, .state = before, .customer = customer, .house = house, .table = table}, want);
+    text_is(what, output);
+    expect("state", what, "another one", memcmp(state, after.at, sizeof state) == 0);
+}
+
 static uint64_t refusal(uint64_t ground, uint64_t list, uint64_t place)
 {
     return ground << 56 | list << 48 | place;
@@ -304,6 +368,53 @@ static struct bytes longer(struct bytes bytes)
 
     memcpy(made.at, bytes.at, bytes.size);
     made.at[bytes.size] = '\n';
+    return made;
+}
+
+/* One text behind the other. */
+static struct bytes joined(struct bytes first, struct bytes second)
+{
+    struct bytes made = fresh(first.size + second.size);
+
+    memcpy(made.at, first.at, first.size);
+    memcpy(made.at + first.size, second.at, second.size);
+    return made;
+}
+
+static struct bytes times(size_t count, struct bytes bytes)
+{
+    struct bytes made = fresh(count * bytes.size);
+
+    for (size_t i = 0; i < count; i++)
+        memcpy(made.at + i * bytes.size, bytes.at, bytes.size);
+    return made;
+}
+
+/* A word with a break at every gap. */
+static struct bytes broken(struct bytes word)
+{
+    struct bytes made = fresh(3 * word.size - 2);
+
+    for (size_t i = 0; i < word.size; i++) {
+        made.at[3 * i] = word.at[i];
+        if (i + 1 < word.size)
+            memcpy(made.at + 3 * i + 1, "\\-", 2);
+    }
+    return made;
+}
+
+/* The state of a running text that has so many bytes, and these of them held. */
+static struct bytes flow(struct bytes held, uint8_t run, size_t total)
+{
+    struct bytes made = fresh(TTEOLMIGU_STATE);
+
+    made.at[0] = (uint8_t)held.size;
+    made.at[1] = run;
+    made.at[2] = (uint8_t)(total >> 24);
+    made.at[3] = (uint8_t)(total >> 16);
+    made.at[4] = (uint8_t)(total >> 8);
+    made.at[5] = (uint8_t)total;
+    memcpy(made.at + 8, held.at, held.size);
     return made;
 }
 
@@ -563,6 +674,8 @@ int main(void)
     struct bytes word = fresh(LETTERS), digit;
     struct bytes held, others, twice;
     struct bytes list, nines, table;
+    struct bytes space, mark, words, many, run, over, text, output;
+    struct bytes waits, after, start; /* states */
 
     stack = mmap(NULL, GUARD + WIDE, PROT_READ | PROT_WRITE, MAP_PRIVATE | MAP_ANONYMOUS, -1, 0);
     told = mmap(NULL, sizeof *told, PROT_READ | PROT_WRITE, MAP_SHARED | MAP_ANONYMOUS, -1, 0);
@@ -621,6 +734,52 @@ int main(void)
     reprint("a digit as last byte", digit, refusal(3, 0, LETTERS - 1));
     reprint("an apostrophe", with(word, 1, '\''), refusal(3, 0, 1));
     reprint("a word too long", longer(word), refusal(4, 0, 0));
+
+    /*
+     * Running text: the longest word is held with an apostrophe behind it, and the piece brings it to its end and has more of them, all
+     * with the longest chains, or all in full lists. A word that was let go goes on through a whole piece.
+     */
+    space = spelt(" ");
+    mark = spelt("'");
+    words = times(WORDS, joined(word, space));
+    many = times(WORDS, joined(broken(word), space));
+    waits = flow(joined(word, mark), 0, LETTERS + 1);
+    text = joined(space, joined(words, joined(word, mark)));
+    output = joined(broken(word), joined(mark, joined(space, many)));
+    after = flow(joined(word, mark), 0, LETTERS + 1 + text.size);
+    run = times(LONG_RUN, joined(spelt("n"), mark));
+    over = times(WORDS, joined(word, joined(word, space)));
+    start = flow(nothing, 0, 0);
+    piece("circles, no exceptions", waits, text, nothing, nothing, table, finding(output.size, (WORDS + 1) * looks), output, after);
+    piece("circles, two full lists", waits, text, others, others, table, finding(output.size, (WORDS + 1) * looks), output, after);
+    piece("the house's last line", waits, text, others, held, table, finding(output.size, 0), output, after);
+    piece("the customer's last line", waits, text, held, others, table, finding(output.size, 0), output, after);
+    piece("a word let go at its end", waits, spelt("n"), held, others, table, finding(LETTERS + 2, 0),
+          joined(word, joined(mark, spelt("n"))), flow(nothing, 1, LETTERS + 2));
+    piece("a word let go that goes on", flow(nothing, 1, LETTERS + 1), run, held, others, table, finding(run.size, 0), run,
+          flow(nothing, 2, LETTERS + 1 + run.size));
+    piece("words let go one behind the other", start, over, others, others, table, finding(over.size, 0), over,
+          flow(nothing, 0, over.size));
+    piece("a state that can't be", with(waits, 6, 1), text, others, others, table,
+          finding(1 + many.size, WORDS * looks), joined(space, many), flow(joined(word, mark), 0, text.size));
+    piece("the customer's last line bad", waits, text, twice, held, table, refusal(6, 1, last), nothing, waits);
+    piece("the house's last line bad", waits, text, held, twice, table, refusal(6, 2, last), nothing, waits);
+    piece("a list too long", waits, text, held, longer(held), table, refusal(8, 0, 0), nothing, waits);
+    piece("a wrong head", waits, text, held, held, with(table, 5, 1), refusal(9, 0, 0), nothing, waits);
+    piece("a text too long", flow(joined(word, mark), 0, TTEOLMIGU_RUNNING_TEXT), space, held, others, table, refusal(21, 0, 0), nothing,
+          flow(joined(word, mark), 0, TTEOLMIGU_RUNNING_TEXT));
+    piece("a room too short", waits, times(TTEOLMIGU_PACK_ROOM / TTEOLMIGU_ROOM_PER_BYTE, space), held, others, table, refusal(14, 0, 0),
+          nothing, waits);
+
+    output = joined(broken(word), mark);
+    end("circles, no exceptions", waits, nothing, nothing, table, finding(output.size, looks), output, start);
+    end("circles, two full lists", waits, others, others, table, finding(output.size, looks), output, start);
+    end("the house's last line", waits, others, held, table, finding(output.size, 0), output, start);
+    end("the customer's last line", waits, held, others, table, finding(output.size, 0), output, start);
+    end("a word let go", flow(nothing, 2, TTEOLMIGU_RUNNING_TEXT), others, others, table, 0, nothing, start);
+    end("a state that can't be", with(waits, 6, 1), others, others, table, 0, nothing, start);
+    end("the house's last line bad", waits, held, twice, table, refusal(6, 2, last), nothing, waits);
+    end("a wrong head", waits, held, held, with(table, 5, 1), refusal(9, 0, 0), nothing, waits);
 
     list = triples();
     pack("a list of full size", list, packed("a list of full size", list).size);

@@ -174,6 +174,12 @@ impl Arena {
         &mut self.usable_mut()[start..end]
     }
 
+    /// The same as an array. They must be just so many.
+    pub fn lend_array_mut<const COUNT: usize>(&mut self) -> &mut [u8; COUNT] {
+        let bytes = self.lend_mut();
+        bytes.try_into().expect("as many bytes as were put there")
+    }
+
     /// Whether the bytes are these and the guards are as they were set.
     pub fn holds(&self, bytes: &[u8]) -> bool {
         let (low, high) = self.guarded();
@@ -287,6 +293,14 @@ mod tests {
             arena.usable_mut()[beside] ^= 1;
             assert!(!arena.holds(b"abc"));
         }
+    }
+
+    #[test]
+    fn an_array_is_lent_to_be_written() {
+        let mut arena = Arena::new();
+        arena.load(b"abc", Place::End);
+        arena.lend_array_mut::<3>()[2] = b'd';
+        assert!(arena.holds(b"abd"));
     }
 
     #[test]

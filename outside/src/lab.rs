@@ -5,7 +5,7 @@ use crate::reference;
 use crate::reference::liang;
 use crate::reference::right::Judge;
 use crate::reference::text::read_word;
-use crate::reference::{Gauge, Pattern, Seen, LONGEST};
+use crate::reference::{Gauge, Given, Pattern, Seen, LONGEST, STATE};
 use crate::rng::Rng;
 use tteolmigu::raw;
 
@@ -20,6 +20,7 @@ pub struct Lab {
     table: Arena,
     patterns: Arena,
     widths: Arena,
+    state: Arena,
     room: Arena,
     place: Place,
     fill: u8,
@@ -71,6 +72,18 @@ fn show_gauge(gauge: &Gauge) -> String {
     text
 }
 
+/// Shows what comes with each call on a running text.
+fn show_given(given: &Given<'_>) -> String {
+    format!(
+        "left {} right {} customer {} house {} table {}",
+        given.left,
+        given.right,
+        show(given.customer),
+        show(given.house),
+        show(given.table)
+    )
+}
+
 /// Shows an answer's parts beside its bits.
 fn show_answer(answer: u64) -> String {
     format!(
@@ -111,6 +124,7 @@ impl Lab {
             table: Arena::new(),
             patterns: Arena::new(),
             widths: Arena::new(),
+            state: Arena::new(),
             room: Arena::new(),
             place: Place::Middle(0),
             fill: 0x5a,
@@ -400,6 +414,121 @@ impl Lab {
         let inputs = self.word.holds(word);
         self.judge(ours, theirs, Some(&expected), inputs, || {
             format!("archive word {} room {}", show(word), size)
+        })
+    }
+
+    /// Lends what comes with each call on a running text.
+    fn load_given(&mut self, given: &Given<'_>) {
+        self.customer.load(given.customer, self.place);
+        self.house.load(given.house, self.place);
+        self.table.load(given.table, self.place);
+    }
+
+    /// Whether it is as it was lent.
+    fn holds_given(&self, given: &Given<'_>) -> bool {
+        self.customer.holds(given.customer)
+            && self.house.holds(given.house)
+            && self.table.holds(given.table)
+    }
+
+    /// Compares the state too; `state` is as the reference left it.
+    fn judge_running(
+        &mut self,
+        ours: u64,
+        theirs: u64,
+        room: &[u8],
+        state: &[u8; STATE],
+        inputs: bool,
+        describe: impl Fn() -> String,
+    ) -> Result<u64, Mismatch> {
+        let result = self.judge(ours, theirs, Some(room), inputs, &describe);
+        if self.state.holds(state) {
+            return result;
+        }
+        let told = match result {
+            Ok(_) => format!("  call      {}\n  answer and room agree", describe()),
+            Err(told) => told,
+        };
+        Err(format!(
+            "{}\n  state by the reference {}\n  state by the library   {}",
+            told,
+            show(state),
+            show(self.state.lend())
+        ))
+    }
+
+    /// The call on a piece of a running text. The state is left as the reference
+    /// leaves it.
+    pub fn piece(
+        &mut self,
+        state: &mut [u8; STATE],
+        given: &Given<'_>,
+        piece: &[u8],
+        size: usize,
+    ) -> Result<u64, Mismatch> {
+        let before = *state;
+        let mut expected = self.before(size);
+        self.load_given(given);
+        self.word.load(piece, self.place);
+        self.state.load(&before, self.place);
+        self.room.load(&expected, self.place);
+        self.turn_key(true);
+        let ours = raw::piece(
+            self.state.lend_array_mut(),
+            given.left,
+            given.right,
+            self.customer.lend(),
+            self.house.lend(),
+            self.table.lend(),
+            self.word.lend(),
+            self.room.lend_mut(),
+        );
+        self.turn_key(false);
+        let theirs = reference::piece(state, given, piece, &mut expected);
+        let inputs = self.holds_given(given) && self.word.holds(piece);
+        self.judge_running(ours, theirs, &expected, state, inputs, || {
+            format!(
+                "piece {} state {} {} room {}",
+                show(piece),
+                show(&before),
+                show_given(given),
+                size
+            )
+        })
+    }
+
+    /// The call that ends a running text, likewise.
+    pub fn end(
+        &mut self,
+        state: &mut [u8; STATE],
+        given: &Given<'_>,
+        size: usize,
+    ) -> Result<u64, Mismatch> {
+        let before = *state;
+        let mut expected = self.before(size);
+        self.load_given(given);
+        self.state.load(&before, self.place);
+        self.room.load(&expected, self.place);
+        self.turn_key(true);
+        let ours = raw::end(
+            self.state.lend_array_mut(),
+            given.left,
+            given.right,
+            self.customer.lend(),
+            self.house.lend(),
+            self.table.lend(),
+            self.room.lend_mut(),
+        );
+        self.turn_key(false);
+        let theirs = reference::end(state, given, &mut expected);
+        let inputs = self.holds_given(given);
+        self.judge_running(ours, theirs, &expected, state, inputs, || {
+            format!(
+                "end state {} {} room {}",
+                show(&before),
+                show_given(given),
+                size
+            )
         })
     }
 

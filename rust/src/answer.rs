@@ -3,7 +3,7 @@
 
 #![forbid(unsafe_code)]
 
-use crate::{Exceptions, Fit, Ground, Line, List};
+use crate::{Exceptions, Fit, Ground, Line, List, Written};
 
 /// The bits `from` up to, but without, `to` of an answer.
 pub(crate) fn bits(answer: u64, from: u32, to: u32) -> u64 {
@@ -24,7 +24,8 @@ pub(crate) fn finding(answer: u64) -> Result<u64, Ground> {
     }
 }
 
-/// Of a finding of hyphenate or levels: how many cells were looked at.
+/// Of a finding of hyphenate, levels, piece or end: how many cells were looked
+/// at.
 pub(crate) fn looks(finding: u64) -> u32 {
     bits(finding, 0, 32) as u32
 }
@@ -32,6 +33,19 @@ pub(crate) fn looks(finding: u64) -> u32 {
 /// Of a finding of pack: the table's length.
 pub(crate) fn size(finding: u64) -> usize {
     size_bits(finding, 0, 48)
+}
+
+/// Of a finding of piece or end: what was written at the room's beginning. The
+/// length is checked, not trusted: one past the room, which can't be, is told as
+/// what it would be, a room too short.
+pub(crate) fn written(finding: u64, room: &[u8]) -> Result<Written<'_>, Ground> {
+    match room.get(..size_bits(finding, 32, 56)) {
+        Some(text) => Ok(Written {
+            text,
+            looks: looks(finding),
+        }),
+        None => Err(Ground::TextRoomShort),
+    }
 }
 
 /// Of a finding of fit on a word of so many letters: what came out. A gap is
@@ -96,6 +110,22 @@ mod tests {
                 offset: 8_190
             })
         );
+    }
+
+    #[test]
+    fn a_text_past_its_room_is_never_cut() {
+        let told = |length: u64, looks: u64| written(length << 32 | looks, b"on.");
+        let text = |text| Ok(Written { text, looks: 4 });
+        assert_eq!(told(0, 4), text(&b""[..]));
+        assert_eq!(told(2, 4), text(&b"on"[..]));
+        assert_eq!(told(3, 4), text(&b"on."[..]));
+        for length in [4, 5, 0xffff, 0x10000, 0xff_ffff] {
+            assert_eq!(told(length, 4), Err(Ground::TextRoomShort));
+        }
+        // Every bit of both numbers is theirs.
+        let long = std::vec![0; 3_145_728];
+        let whole = written(3_145_728 << 32 | 0xffff_ffff, &long).unwrap();
+        assert_eq!((whole.text.len(), whole.looks), (3_145_728, 0xffff_ffff));
     }
 
     #[test]

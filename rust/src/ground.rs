@@ -4,8 +4,8 @@
 
 use crate::answer::bits;
 use crate::{
-    List, CELL_LIMIT, ENTRY_LIMIT, MARGIN_LEAST, MARGIN_LIMIT, PACK_ROOM, ROOM, WIDTH_LEAST,
-    WIDTH_LIMIT, WORD_LIMIT,
+    List, CELL_LIMIT, ENTRY_LIMIT, MARGIN_LEAST, MARGIN_LIMIT, PACK_ROOM, ROOM, ROOM_PER_BYTE,
+    RUNNING_TEXT, WIDTH_LEAST, WIDTH_LIMIT, WORD_LIMIT,
 };
 use core::fmt;
 
@@ -70,6 +70,11 @@ pub enum Ground {
     /// 13: a width outside 0 to 1,000, or not a number: the hyphen's, the
     /// line's, one of the 26 letters' or the apostrophe's.
     BadWidth,
+    /// 14: the room for running text has fewer than three bytes for each byte
+    /// held or in the piece.
+    TextRoomShort,
+    /// 21: the piece takes the running text past 1,048,576 bytes.
+    RunningLong,
     /// A refusal that this version doesn't know. The library that the crate
     /// was made with never gives one.
     #[non_exhaustive]
@@ -140,6 +145,8 @@ impl Ground {
             (11, 0, 0) => Ground::NoFit,
             (12, 0, 0) => Ground::NotRight,
             (13, 0, 0) => Ground::BadWidth,
+            (14, 0, 0) => Ground::TextRoomShort,
+            (21, 0, 0) => Ground::RunningLong,
             _ => unknown,
         }
     }
@@ -151,7 +158,7 @@ impl Ground {
     ///
     /// assert_eq!(Ground::Margin.number(), 1);
     /// assert_eq!(Ground::NotLetter { place: 5 }.number(), 3);
-    /// assert_eq!(Ground::BadWidth.number(), 13);
+    /// assert_eq!(Ground::RunningLong.number(), 21);
     /// ```
     pub const fn number(self) -> u8 {
         match self {
@@ -168,6 +175,8 @@ impl Ground {
             Ground::NoFit => 11,
             Ground::NotRight => 12,
             Ground::BadWidth => 13,
+            Ground::TextRoomShort => 14,
+            Ground::RunningLong => 21,
             Ground::Unknown { number, .. } => number,
         }
     }
@@ -249,6 +258,14 @@ impl fmt::Display for Ground {
                 "a width outside {} to {}, or not a number",
                 WIDTH_LEAST, WIDTH_LIMIT
             ),
+            Ground::TextRoomShort => write!(
+                out,
+                "the room has fewer than {} bytes for each byte held or in the piece",
+                ROOM_PER_BYTE
+            ),
+            Ground::RunningLong => {
+                write!(out, "the piece takes the text past {} bytes", RUNNING_TEXT)
+            }
             Ground::Unknown { list, place, .. } => {
                 write!(out, "unknown here, with list {} and place {}", list, place)
             }
@@ -295,7 +312,7 @@ mod tests {
             assert_eq!(ground.number(), number);
             numbers.push(number);
         }
-        assert_eq!(numbers, (1..=13).collect::<Vec<u8>>());
+        assert_eq!(numbers, (1..=14).chain([21]).collect::<Vec<u8>>());
     }
 
     #[test]
@@ -333,7 +350,7 @@ mod tests {
             let ground = Ground::of_answer(answer(number, list, place)).unwrap();
             !matches!(ground, Ground::Unknown { .. })
         };
-        for number in [1, 2, 4, 5, 8, 9, 10, 11, 12, 13] {
+        for number in [1, 2, 4, 5, 8, 9, 10, 11, 12, 13, 14, 21] {
             assert!(known(number, 0, 0));
             assert!(!known(number, 0, 1) && !known(number, 1, 0));
         }
@@ -343,7 +360,9 @@ mod tests {
         }
         assert!(known(6, 1, 0) && known(6, 2, 9));
         assert!(!known(6, 0, 9) && !known(6, 3, 9));
-        assert!(!known(14, 0, 0) && !known(255, 0, 0));
+        for number in [15, 16, 17, 18, 19, 20, 22, 255] {
+            assert!(!known(number, 0, 0));
+        }
     }
 
     #[test]
@@ -369,8 +388,16 @@ mod tests {
             "ground 13: a width outside 0 to 1000, or not a number"
         );
         assert_eq!(
-            said(14, 4, 5),
-            "ground 14: unknown here, with list 4 and place 5"
+            said(14, 0, 0),
+            "ground 14: the room has fewer than 3 bytes for each byte held or in the piece"
+        );
+        assert_eq!(
+            said(21, 0, 0),
+            "ground 21: the piece takes the text past 1048576 bytes"
+        );
+        assert_eq!(
+            said(15, 4, 5),
+            "ground 15: unknown here, with list 4 and place 5"
         );
     }
 

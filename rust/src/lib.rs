@@ -8,7 +8,7 @@
 //! Z, and apostrophes, each between two letters, that count as letters.
 //!
 //! ```
-//! use tteolmigu::{Exceptions, Fit, Gauge, Ground, Margins, Table, PACK_ROOM, WIDTHS};
+//! use tteolmigu::{Exceptions, Fit, Flow, Gauge, Ground, Margins, Table, PACK_ROOM, WIDTHS};
 //!
 //! // Pack a list. The table lies at the beginning of the room.
 //! let patterns = b"he2n\nhena4\nhen5at\nhy3ph\n2io\n1na\nn2at\no2n\n1tio\n";
@@ -50,6 +50,18 @@
 //! let breaks = table.hyphenate(margins, b"L'Entrata", lists)?;
 //! assert_eq!(breaks.iter().collect::<Vec<_>>(), [4]);
 //!
+//! // A running text comes in pieces of any size and goes out with a backslash and
+//! // a hyphen in each break. The unfinished word is held until the next piece.
+//! let (mut flow, mut room) = (Flow::new(), [0; 192]);
+//! let mut printed = Vec::new();
+//! for piece in ["On hyphen", "ation, l'en", "trata"] {
+//!     let written = flow.piece(table, margins, lists, piece.as_bytes(), &mut room)?;
+//!     printed.extend_from_slice(written.text);
+//! }
+//! assert_eq!(printed, b"On hy\\-phen\\-ation, ");
+//! printed.extend_from_slice(flow.end(table, margins, lists, &mut room)?.text);
+//! assert_eq!(printed, b"On hy\\-phen\\-ation, l'en\\-trata");
+//!
 //! // Look at a refusal: its ground and place, its number, its words.
 //! let ground = table.hyphenate(margins, b"a1", lists).unwrap_err();
 //! assert_eq!(ground, Ground::NotLetter { place: 1 });
@@ -67,7 +79,7 @@
 //! The crate needs `core` alone and asks for no memory. The limits at its root
 //! have the names that the header has. Over bytes that nobody checked there are
 //! the calls of [`any`], for archive reprints there are the breaks of 1980 in
-//! [`archive`], and [`raw`] has all seven calls with the answers' 64 bits as they
+//! [`archive`], and [`raw`] has all nine calls with the answers' 64 bits as they
 //! come.
 //!
 //! With the feature `std`, which isn't on by default, [`Ground`] is a
@@ -86,6 +98,7 @@ pub mod any;
 pub mod archive;
 mod breaks;
 mod exceptions;
+mod flow;
 mod gauge;
 mod ground;
 mod levels;
@@ -97,6 +110,7 @@ mod table;
 pub use archive::Archived;
 pub use breaks::{Breaks, Positions};
 pub use exceptions::{Exceptions, Line, List};
+pub use flow::{Flow, Written};
 pub use gauge::{Fit, Gauge};
 pub use ground::Ground;
 pub use levels::Levels;

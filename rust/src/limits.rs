@@ -16,7 +16,7 @@ pub const VERSION_MAJOR: u32 = 2;
 /// ```
 /// assert!(tteolmigu::VERSION_MINOR < 1_000);
 /// ```
-pub const VERSION_MINOR: u32 = 0;
+pub const VERSION_MINOR: u32 = 1;
 
 /// The third number of the version.
 ///
@@ -96,6 +96,47 @@ pub const ROOM_1980: usize = 64;
 /// assert_eq!(longer, Err(Ground::WordLong));
 /// ```
 pub const LETTERS_1980: usize = 63;
+
+/// The bytes of a running text's state: 8, and one for each letter of a word
+/// and for an apostrophe behind it.
+///
+/// ```
+/// use tteolmigu::{Flow, STATE, WORD_LIMIT};
+///
+/// assert_eq!(STATE, 8 + WORD_LIMIT + 1);
+/// assert_eq!(Flow::new().bytes(), &[0; STATE]);
+/// ```
+pub const STATE: usize = 72;
+
+/// The most bytes of a running text.
+///
+/// ```
+/// use tteolmigu::{raw, Ground, RUNNING_TEXT, STATE};
+///
+/// // A text that lacks one byte of it, which now comes.
+/// let table = [1, 1, 0, 1, 0, 0, 2, 0, 0, 0, 0, 0];
+/// let mut state = [0; STATE];
+/// state[2..6].copy_from_slice(&(RUNNING_TEXT as u32 - 1).to_be_bytes());
+/// let mut take = || raw::piece(&mut state, 2, 3, b"", b"", &table, b".", &mut [0; 3]);
+/// assert_eq!(Ground::of_answer(take()), None);
+/// assert_eq!(Ground::of_answer(take()), Some(Ground::RunningLong));
+/// ```
+pub const RUNNING_TEXT: usize = 1_048_576;
+
+/// The least room in bytes for each byte of a running text that is held or in
+/// the piece.
+///
+/// ```
+/// use tteolmigu::{raw, Ground, ROOM_PER_BYTE, STATE};
+///
+/// let table = [1, 1, 0, 1, 0, 0, 2, 0, 0, 0, 0, 0];
+/// let mut room = [0; 4 * ROOM_PER_BYTE];
+/// let answer = raw::piece(&mut [0; STATE], 2, 3, b"", b"", &table, b"On a", &mut room);
+/// assert_eq!(Ground::of_answer(answer), None);
+/// let answer = raw::piece(&mut [0; STATE], 2, 3, b"", b"", &table, b"On a", &mut room[1..]);
+/// assert_eq!(Ground::of_answer(answer), Some(Ground::TextRoomShort));
+/// ```
+pub const ROOM_PER_BYTE: usize = 3;
 
 /// The least margin.
 ///
@@ -358,13 +399,17 @@ pub const TABLE_LEAST: usize = 12;
 /// ```
 pub const TABLE_LIMIT: usize = PACK_ROOM;
 
-/// The bytes of stack that any call but packing and the machine of 1980 takes at
-/// most in the library.
+/// The bytes of stack that any call but packing, the machine of 1980 and those of
+/// a running text takes at most in the library.
 /// The functions here add a room and some slices to it.
 pub const STACK: usize = 1_024;
 
 /// The bytes of stack that packing takes at most in the library.
 pub const PACK_STACK: usize = 20_480;
+
+/// The bytes of stack that a piece of a running text, and its end, take at most
+/// in the library.
+pub const PIECE_STACK: usize = 2_048;
 
 /// The bytes of stack that the machine of 1980 takes at most in the library.
 pub const STACK_1980: usize = 1_536;
@@ -427,7 +472,7 @@ pub(crate) mod tests {
             MARGIN_LIMIT LOOK_LIMIT WIDTHS APOSTROPHE_WIDTH WIDTH_LEAST WIDTH_LIMIT PATTERN_TEXT
             PATTERN_LIMIT LEVEL_LIMIT EXCEPTION_TEXT EXCEPTION_LIMIT CUSTOMER_LIST HOUSE_LIST EDITION HEAD_SIZE
             CELL_SIZE ENTRY_SIZE CELL_LIMIT ENTRY_LIMIT TABLE_LEAST TABLE_LIMIT STACK PACK_STACK
-            ROOM_1980 LETTERS_1980 STACK_1980
+            ROOM_1980 LETTERS_1980 STACK_1980 STATE RUNNING_TEXT ROOM_PER_BYTE PIECE_STACK
         );
         assert_eq!(ours, header());
     }

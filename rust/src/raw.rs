@@ -1,8 +1,8 @@
-//! The seven calls as the C interface answers them: one number of 64 bits,
+//! The nine calls as the C interface answers them: one number of 64 bits,
 //! not yet taken apart.
 //!
 //! They are safe to use, because every pointer and length comes from a slice.
-//! Any bytes may be lent as texts and tables, any numbers as margins and
+//! Any bytes may be lent as texts, tables and states, any numbers as margins and
 //! widths, and rooms of any size. `include/tteolmigu.h` says what the bits are
 //! and what each call leaves in its room;
 //! [`Ground::of_answer`](crate::Ground::of_answer) reads a refusal. Most
@@ -13,7 +13,7 @@
 
 #![allow(unsafe_code)]
 
-use crate::WIDTHS;
+use crate::{STATE, WIDTHS};
 
 mod c {
     extern "C" {
@@ -77,6 +77,36 @@ mod c {
         pub fn tteolmigu_1980(
             word: *const u8,
             word_length: usize,
+            room: *mut u8,
+            room_length: usize,
+        ) -> u64;
+
+        pub fn tteolmigu_piece(
+            state: *mut u8,
+            left: u64,
+            right: u64,
+            customer: *const u8,
+            customer_length: usize,
+            house: *const u8,
+            house_length: usize,
+            table: *const u8,
+            table_length: usize,
+            piece: *const u8,
+            piece_length: usize,
+            room: *mut u8,
+            room_length: usize,
+        ) -> u64;
+
+        pub fn tteolmigu_end(
+            state: *mut u8,
+            left: u64,
+            right: u64,
+            customer: *const u8,
+            customer_length: usize,
+            house: *const u8,
+            house_length: usize,
+            table: *const u8,
+            table_length: usize,
             room: *mut u8,
             room_length: usize,
         ) -> u64;
@@ -270,4 +300,96 @@ pub fn fit(hyphen: f64, line: f64, widths: &[f64; WIDTHS], word: &[u8], room: &[
 pub fn archive(word: &[u8], room: &mut [u8]) -> u64 {
     // Safety: as in `hyphenate`.
     unsafe { c::tteolmigu_1980(word.as_ptr(), word.len(), room.as_mut_ptr(), room.len()) }
+}
+
+/// Takes the next piece of a running text and writes what is settled of it to
+/// `room`, with a backslash and a hyphen in each break. An answer has the length
+/// of the text written in bits 32 to 55 and the count of looks in bits 0 to 31.
+/// Grounds 1, 8, 6, 9, 21 and 14, in this order; refused, state and room keep
+/// every byte.
+///
+/// ```
+/// use tteolmigu::{raw, STATE};
+///
+/// let table = [1, 1, 0, 1, 0, 0, 2, 0, 0, 0, 0, 0];
+/// let mut state = [0; STATE]; // a new text
+/// let mut room = [7; 27];
+/// let answer = raw::piece(&mut state, 2, 2, b"", b"met-al\n", &table, b"A me", &mut room);
+/// assert_eq!(answer, 2 << 32 | 3); // "A " is written, after three looks
+/// assert_eq!(state[..10], [2, 0, 0, 0, 0, 4, 0, 0, b'm', b'e']); // "me" is held
+/// let answer = raw::piece(&mut state, 2, 2, b"", b"met-al\n", &table, b"tal.", &mut room);
+/// assert_eq!(answer, 8 << 32);
+/// assert_eq!(&room[..9], b"met\\-al.\x07");
+/// ```
+#[allow(clippy::too_many_arguments)]
+pub fn piece(
+    state: &mut [u8; STATE],
+    left: u64,
+    right: u64,
+    customer: &[u8],
+    house: &[u8],
+    table: &[u8],
+    piece: &[u8],
+    room: &mut [u8],
+) -> u64 {
+    // Safety: as in `hyphenate`, and the library reads and writes just so many
+    // bytes of the state, which is borrowed for writing.
+    unsafe {
+        c::tteolmigu_piece(
+            state.as_mut_ptr(),
+            left,
+            right,
+            customer.as_ptr(),
+            customer.len(),
+            house.as_ptr(),
+            house.len(),
+            table.as_ptr(),
+            table.len(),
+            piece.as_ptr(),
+            piece.len(),
+            room.as_mut_ptr(),
+            room.len(),
+        )
+    }
+}
+
+/// Ends a running text: writes what is held, and the next piece begins a new
+/// text. It answers as [`piece`] does. Grounds 1, 8, 6, 9 and 14, in this order.
+///
+/// ```
+/// use tteolmigu::{raw, STATE};
+///
+/// let table = [1, 1, 0, 1, 0, 0, 2, 0, 0, 0, 0, 0];
+/// let mut state = [0; STATE];
+/// let mut room = [7; 6];
+/// assert_eq!(raw::piece(&mut state, 2, 3, b"", b"", &table, b"on", &mut room), 0);
+/// assert_eq!(raw::end(&mut state, 2, 3, b"", b"", &table, &mut room[..5]), 14 << 56);
+/// assert_eq!(raw::end(&mut state, 2, 3, b"", b"", &table, &mut room), 2 << 32 | 4);
+/// assert_eq!((state, &room), ([0; STATE], b"on\x07\x07\x07\x07"));
+/// ```
+pub fn end(
+    state: &mut [u8; STATE],
+    left: u64,
+    right: u64,
+    customer: &[u8],
+    house: &[u8],
+    table: &[u8],
+    room: &mut [u8],
+) -> u64 {
+    // Safety: as in `piece`.
+    unsafe {
+        c::tteolmigu_end(
+            state.as_mut_ptr(),
+            left,
+            right,
+            customer.as_ptr(),
+            customer.len(),
+            house.as_ptr(),
+            house.len(),
+            table.as_ptr(),
+            table.len(),
+            room.as_mut_ptr(),
+            room.len(),
+        )
+    }
 }

@@ -8,7 +8,7 @@ use Rattle.base.specs.Grounds.{Told, told, Said, Finds, Refuses, says, R
 use Rattle.base.specs.declared.Check.{Check}
 use Rattle.base.specs.declared.Check.the-variants.{Fine, Refused}
 use Rattle.base.specs.declared.Ground.{Ground}
-use Rattle.base.specs.declared.Ground.the-variants.{Margin, WordEmpty, NotLetter, WordLong, RoomShort, BadException, BadPattern, TextLong, TableForm, PackRoomShort, NoFit, NotRight, BadWidth}
+use Rattle.base.specs.declared.Ground.the-variants.{Margin, WordEmpty, NotLetter, WordLong, RoomShort, BadException, BadPattern, TextLong, TableForm, PackRoomShort, NoFit, NotRight, BadWidth, TextRoomShort, RunningLong}
 use Rattle.base.proofs.Lists.{clash}
 
 -- a judgement that is fine hands on to the next; the first refusal is the answer
@@ -43,7 +43,9 @@ ground-of t =
     (cond (eqb (t .number) 9) TableForm
     (cond (eqb (t .number) 10) PackRoomShort
     (cond (eqb (t .number) 11) NoFit
-    (cond (eqb (t .number) 12) NotRight BadWidth)))))))))))
+    (cond (eqb (t .number) 12) NotRight
+    (cond (eqb (t .number) 13) BadWidth
+    (cond (eqb (t .number) 14) TextRoomShort RunningLong)))))))))))))
 
 ground-told : (g : Ground) → ground-of (told g) ≡ g
 unfolding ground-of
@@ -60,6 +62,8 @@ ground-told PackRoomShort = refl
 ground-told NoFit = refl
 ground-told NotRight = refl
 ground-told BadWidth = refl
+ground-told TextRoomShort = refl
+ground-told RunningLong = refl
 
 pub told-once : (g h : Ground) → told g ≡ told h → g ≡ h
 told-once g h e = sym (ground-told g) ∙ ap ground-of e ∙ ground-told h

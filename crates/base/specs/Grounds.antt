@@ -6,7 +6,7 @@ use lib.Dec.{eqb}
 use Rattle.base.specs.declared.Check.{Check}
 use Rattle.base.specs.declared.Check.the-variants.{Fine, Refused}
 use Rattle.base.specs.declared.Ground.{Ground}
-use Rattle.base.specs.declared.Ground.the-variants.{Margin, WordEmpty, NotLetter, WordLong, RoomShort, BadException, BadPattern, TextLong, TableForm, PackRoomShort, NoFit, NotRight, BadWidth}
+use Rattle.base.specs.declared.Ground.the-variants.{Margin, WordEmpty, NotLetter, WordLong, RoomShort, BadException, BadPattern, TextLong, TableForm, PackRoomShort, NoFit, NotRight, BadWidth, TextRoomShort, RunningLong}
 
 -- What the customer reads of a ground: its number, and the list and place told, 0 where none is.
 pub record Told : Type 0 where
@@ -23,7 +23,8 @@ abbrev pub placed : ℕ → ℕ → Told
 placed n at = record { number = n; list = 0; place = at }
 
 -- The table of "When the desk says no", row by row; then document 02's: "A given width outside 0 to 1,000, or not-a-number, is refusal 13",
--- and "a new number tells no place unless one is named".
+-- "The output room must have three bytes for each byte held or in the piece, else refusal 14", "past 1,048,576 bytes is refusal 21", and
+-- "a new number tells no place unless one is named".
 abbrev pub told : Ground → Told
 told Margin = plain 1
 told WordEmpty = plain 2
@@ -38,6 +39,8 @@ told PackRoomShort = plain 10
 told NoFit = plain 11
 told NotRight = plain 12
 told BadWidth = plain 13
+told TextRoomShort = plain 14
+told RunningLong = plain 21
 
 -- An answer as the customer reads it: "either a finding or a refusal that carries its ground and place". A finding tells its
 -- values in order.

@@ -1,6 +1,6 @@
 -- Every limit of documents 01 and 02 and the size of the alphabet, each named once, with the words that set it.
 -- src/lib.rt has the same numbers for the code; a promise that uses both fails to prove where they differ.
-use Prim.Native.Nat.{ℕ}
+use Prim.Native.Nat.{ℕ, _+_}
 
 -- Word: "1 to 63 bytes". Exception line: "1 to 63 small letters".
 abbrev pub wordLimit : ℕ
@@ -62,6 +62,18 @@ packRoom = 59398
 -- CR 2: "with 26 letter widths beside it"; CR 5: it "gets a 27th width", the apostrophe's.
 abbrev pub widthCount : ℕ
 widthCount = 27
+
+-- CR 6: "a piece that takes the text past 1,048,576 bytes is refusal 21".
+abbrev pub runningText : ℕ
+runningText = 1048576
+
+-- "The output room must have three bytes for each byte held or in the piece".
+abbrev pub roomPerByte : ℕ
+roomPerByte = 3
+
+-- What is held at most: "exactly the unfinished word .., with an apostrophe right behind it".
+abbrev pub heldLimit : ℕ
+heldLimit = wordLimit + 1
 
 -- CR 4: words "are judged as before (5, 2, 4, 3)", and the 1980 machine keeps these two where the word limit and the room size move.
 abbrev pub wordLimit1980 : ℕ

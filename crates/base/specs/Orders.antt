@@ -30,3 +30,11 @@ fitOrder = 5 ∷ 2 ∷ 4 ∷ 3 ∷ 13 ∷ []
 -- CR 4: "Words are judged as before (5, 2, 4, 3)"
 abbrev pub order1980 : List ℕ
 order1980 = 5 ∷ 2 ∷ 4 ∷ 3 ∷ []
+
+-- CR 6: "Exceptions, margins and table come with each call and are judged first (1, 8, 6, 9)", "refusal 21, before 14"; the end call
+-- takes no piece.
+abbrev pub pieceOrder : List ℕ
+pieceOrder = 1 ∷ 8 ∷ 8 ∷ 6 ∷ 6 ∷ 9 ∷ 21 ∷ 14 ∷ []
+
+abbrev pub endOrder : List ℕ
+endOrder = 1 ∷ 8 ∷ 8 ∷ 6 ∷ 6 ∷ 9 ∷ 14 ∷ []

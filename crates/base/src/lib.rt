@@ -35,6 +35,12 @@ pub const PACK_ROOM: usize = 59398;
 
 pub const WIDTH_COUNT: usize = 27;
 
+pub const RUNNING_TEXT: usize = 1048576;
+
+pub const ROOM_PER_BYTE: usize = 3;
+
+pub const HELD_LIMIT: usize = WORD_LIMIT + 1;
+
 // The 1980 machine's own.
 pub const WORD_LIMIT_1980: usize = 63;
 
@@ -64,6 +70,8 @@ pub enum Ground {
     NoFit,
     NotRight,
     BadWidth,
+    TextRoomShort,
+    RunningLong,
 }
 
 // What a judgement says: nothing against it, or why not.
@@ -90,6 +98,8 @@ pub fn number_of(ground: Ground) -> usize
         Ground::NoFit => 11,
         Ground::NotRight => 12,
         Ground::BadWidth => 13,
+        Ground::TextRoomShort => 14,
+        Ground::RunningLong => 21,
     }
 }
 
@@ -111,6 +121,8 @@ pub fn list_of(ground: Ground) -> usize
         Ground::NoFit => 0,
         Ground::NotRight => 0,
         Ground::BadWidth => 0,
+        Ground::TextRoomShort => 0,
+        Ground::RunningLong => 0,
     }
 }
 
@@ -132,5 +144,7 @@ pub fn place_of(ground: Ground) -> usize
         Ground::NoFit => 0,
         Ground::NotRight => 0,
         Ground::BadWidth => 0,
+        Ground::TextRoomShort => 0,
+        Ground::RunningLong => 0,
     }
 }

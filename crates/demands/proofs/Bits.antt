@@ -13,7 +13,7 @@ use Rattle.base.specs.Grounds.{told, Said, Finds, Refuses, first, refuseIf, fir
 use Rattle.base.specs.declared.Check.{Check}
 use Rattle.base.specs.declared.Check.the-variants.{Fine, Refused}
 use Rattle.base.specs.declared.Ground.{Ground}
-use Rattle.base.specs.declared.Ground.the-variants.{Margin, WordEmpty, NotLetter, WordLong, RoomShort, BadException, BadPattern, TextLong, TableForm, PackRoomShort, NoFit, NotRight, BadWidth}
+use Rattle.base.specs.declared.Ground.the-variants.{Margin, WordEmpty, NotLetter, WordLong, RoomShort, BadException, BadPattern, TextLong, TableForm, PackRoomShort, NoFit, NotRight, BadWidth, TextRoomShort, RunningLong}
 use Rattle.base.proofs.Grounds.{Ordered, both-fine, not-refused, said-found, said-refused}
 use Rattle.base.proofs.Lists.{clash, both}
 use Rattle.rooms.specs.Rooms.{isShort, sheet, nonzero, bit}
@@ -56,11 +56,22 @@ use Rattle.machine1980.specs.Breaks as reprint
 use Rattle.machine1980.specs.Calls.{grounds1980, valuesOf, answer1980, judge1980}
 use Rattle.machine1980.proofs.Order.{ordered-1980, judged-fine}
 use Rattle.machine1980.proofs.Budgets.{mostExecuted, Within, within}
+use Rattle.states.specs.State.{readState}
+use Rattle.states.specs.Bytes.{stateSize, ofBytes}
+use Rattle.states.specs.declared.TextState.{TextState}
+use Rattle.states.proofs.Theorems.{read-left-state}
+use Rattle.states.proofs.Bytes.{bytes-wide}
+use Rattle.flowing.specs.Output.{pieceText, pieceLooks, endText, endLooks}
+use Rattle.running.specs.Calls.{passesEnd, shortFor, judgeSetting, judgePiece, judgeEnd, heldNow, totalNow, textAnswer, judgedPiece, pieceAnswer, judgedEnd, endAnswer}
+use Rattle.running.specs.declared.TextAnswer.{TextAnswer}
+use Rattle.running.specs.declared.TextAnswer.the-variants as texts
+use Rattle.running.proofs.Theorems.{answered-short}
+use Rattle.running.proofs.Sizes.{piece-fits, end-fits, piece-count, end-count}
 use Rattle.packer.specs.declared.Packing.{Packing}
 use Rattle.packer.specs.declared.Packing.the-variants as packings
 use Rattle.packer.specs.Pack.{judgePack, packing, packAnswer}
-use Rattle.tteolmigu.specs.Bits.{refusalBits, lineBits, answerBits, packingBits, checkBits, locatedBits, fitBits, bits1980, numberIn, listIn, placeIn, marksIn, looksIn, sizeIn, offsetIn, lengthIn, outcomeIn, gapIn, ranOutIn, breaksIn, executedIn}
-use Rattle.tteolmigu.proofs.Read.{told-number, told-list, told-place, found-number, found-marks, found-looks, size-number, size-size, line-number, line-list, line-offset, line-length, fitting-number, fitting-outcome, fitting-gap, reprint-number, reprint-ran-out, reprint-breaks, reprint-executed}
+use Rattle.tteolmigu.specs.Bits.{refusalBits, lineBits, answerBits, packingBits, checkBits, locatedBits, fitBits, bits1980, textBits, textLengthIn, numberIn, listIn, placeIn, marksIn, looksIn, sizeIn, offsetIn, lengthIn, outcomeIn, gapIn, ranOutIn, breaksIn, executedIn}
+use Rattle.tteolmigu.proofs.Read.{told-number, told-list, told-place, found-number, found-marks, found-looks, size-number, size-size, line-number, line-list, line-offset, line-length, fitting-number, fitting-outcome, fitting-gap, reprint-number, reprint-ran-out, reprint-breaks, reprint-executed, written-number, written-length, written-looks}
 use Rattle.demands.proofs.Packed.{judged-patterns, fit-accepted}
 
 -- What is read of a refusal's bits.
@@ -92,6 +103,8 @@ number-small PackRoomShort = omega arith
 number-small NoFit = omega arith
 number-small NotRight = omega arith
 number-small BadWidth = omega arith
+number-small TextRoomShort = omega arith
+number-small RunningLong = omega arith
 
 reads-refusal : (g : Ground) → Small g → ReadsRefusal g (refusalBits g)
 reads-refusal g s =
@@ -440,3 +453,53 @@ bits-1980 word size = go (judge1980 word size) refl (small-1980 word size) (orde
         read (said-found o (valuesOf (length word) (machine budget1980 word)))
         (outcome-reads (length word) (mostExecuted (length word)) (machine budget1980 word) (omega arith) (within word w budget1980 (omega arith)))
     go (Refused x) j s o = let r = reads-refusal x s in read (said-refused o (valuesOf (length word) (machine budget1980 word))) (r .number, r .list, r .place)
+
+-- The bits of CR 6's calls say what they answer: the length of the text written and the count, or the refusal.
+pub ReadsText : TextAnswer → ℕ → Type 0
+ReadsText (texts.Written length looks) bits = (numberIn bits ≡ 0) × (textLengthIn bits ≡ length) × (looksIn bits ≡ looks)
+ReadsText (texts.Refused g) bits = ReadsRefusal g bits
+
+setting-small : (left right : ℕ) (customer house table : List ℕ) → SmallCheck (judgeSetting left right customer house table)
+unfolding judgeSetting
+setting-small left right customer house table =
+    small-first (judgeMargins left right) _ (margins-small left right) (small-first (judgeLists customer house) (judgeTable table) (lists-small customer house) (table-small table))
+
+piece-small : (left right : ℕ) (customer house table : List ℕ) (total held n size : ℕ) → SmallCheck (judgePiece left right customer house table total held n size)
+unfolding judgePiece
+piece-small left right customer house table total held n size =
+    small-first (judgeSetting left right customer house table) _ (setting-small left right customer house table)
+    (small-first (refuseIf (passesEnd total n) RunningLong) _ (small-if (passesEnd total n) RunningLong (plain RunningLong refl refl))
+    (small-if (shortFor (held + n) size) TextRoomShort (plain TextRoomShort refl refl)))
+
+end-small : (left right : ℕ) (customer house table : List ℕ) (held size : ℕ) → SmallCheck (judgeEnd left right customer house table held size)
+unfolding judgeEnd
+end-small left right customer house table held size =
+    small-first (judgeSetting left right customer house table) _ (setting-small left right customer house table) (small-if (shortFor held size) TextRoomShort (plain TextRoomShort refl refl))
+
+text-reads : (judged : Check) (text : List ℕ) (looks : ℕ) → SmallCheck judged → (judged ≡ Fine → (length text < 16777216) × (looks < 4294967296))
+    → ReadsText (textAnswer judged text looks) (textBits (textAnswer judged text looks))
+unfolding ReadsText SmallCheck
+text-reads Fine text looks s f =
+    let b = f refl in
+    (written-number (length text) looks (b .0) (b .1), written-length (length text) looks (b .0) (b .1), written-looks (length text) looks (b .0) (b .1))
+text-reads (Refused g) text looks s f = reads-refusal g s
+
+module _ (bytes : List ℕ) (wide : length bytes ≡ stateSize) (left right : ℕ) (customer house table : List ℕ) where
+  pub piece-bits : (piece : List ℕ) (size : ℕ)
+      → ReadsText (pieceAnswer (ofBytes bytes) left right customer house table piece size) (textBits (pieceAnswer (ofBytes bytes) left right customer house table piece size))
+  piece-bits piece size =
+      let s = ofBytes bytes in
+      let l = read-left-state (ofBytes bytes) (bytes-wide bytes wide) in
+      text-reads (judgedPiece s left right customer house table piece size) (pieceText left right customer house table (heldNow s) piece) (pieceLooks customer house table (heldNow s) piece)
+      (piece-small left right customer house table (totalNow s) (readState s .size) (length piece) size)
+      λ e.
+      let n = answered-short left right customer house table s piece size e in
+      (omega (arith, piece-fits left right customer house table (readState s) l piece n), omega (arith, n, piece-count left right customer house table (readState s) l piece))
+
+  pub end-bits : (size : ℕ) → ReadsText (endAnswer (ofBytes bytes) left right customer house table size) (textBits (endAnswer (ofBytes bytes) left right customer house table size))
+  end-bits size =
+      let s = ofBytes bytes in
+      let l = read-left-state (ofBytes bytes) (bytes-wide bytes wide) in
+      text-reads (judgedEnd s left right customer house table size) (endText left right customer house table (heldNow s)) (endLooks customer house table (heldNow s))
+      (end-small left right customer house table (readState s .size) size)
+      λ e. (omega (arith, end-fits left right customer house table (readState s) l), omega (arith, end-count left right customer house table (readState s) l))

@@ -11,7 +11,7 @@ use lib.Ieee.{Float}
 use lib.ListN.{length}
 use Rattle.base.specs.Limits.{packRoom}
 use Rattle.base.specs.Grounds.{Told, Said, Finds, Refuses, says, Row, firstOf, numbersOf, isFinding, anyHolds, oneOf}
-use Rattle.base.specs.Orders.{hyphenateOrder, levelsOrder, packOrder, checkOrder, lookupOrder, fitOrder, order1980}
+use Rattle.base.specs.Orders.{hyphenateOrder, levelsOrder, packOrder, checkOrder, lookupOrder, fitOrder, order1980, pieceOrder, endOrder}
 use Rattle.base.specs.declared.Check.{Check}
 use Rattle.base.proofs.Order.{Chosen, finding-exactly, refuses-first, refuses-listed, none-found, some-refused}
 use Rattle.rooms.specs.Rooms.{filled}
@@ -30,6 +30,10 @@ use Rattle.packer.specs.declared.Packing.{Packing}
 use Rattle.gauge.specs.Fit.{fitGrounds, fitSaid, fitAnswer}
 use Rattle.gauge.specs.declared.Gauge.{Gauge}
 use Rattle.gauge.specs.declared.Fitting.{Fitting}
+use Rattle.states.specs.declared.TextState.{TextState}
+use Rattle.running.specs.Calls.{settingGrounds, pieceGrounds, endGrounds, textSaid, textLeft, stateLeft, Gives, totalNow, Pieces, Ends}
+use Rattle.running.specs.declared.Taken.{Taken}
+use Rattle.states.specs.State.{readState}
 use Rattle.machine1980.specs.Run.{Outcome, RanOut, machine}
 use Rattle.machine1980.specs.Calls.{grounds1980, said1980, leftBy, answer1980, room1980, Reprints}
 use Rattle.machine1980.specs.Calls as reprint
@@ -151,3 +155,34 @@ module _ (budget : ℕ) (word room after : List ℕ) (r : Answer1980) (p : Repri
       either : (s : Said) → reprint.roomLeft s (machine budget word) (length word) room ≡ room
       either (Finds values) = ap (λ (o : Outcome). leftBy (length word) o room) e
       either (Refuses t) = refl
+
+-- CR 6's calls: "1, 8, 6, 9", then 21 and 14. "Refused, nothing is taken or written": the state comes back as it was given too.
+pub piece-order : (left right : ℕ) (customer house table : List ℕ) (total held n size : ℕ) → numbersOf (pieceGrounds left right customer house table total held n size) ≡ pieceOrder
+unfolding pieceGrounds settingGrounds marginGrounds listGrounds tableGrounds
+piece-order left right customer house table total held n size = refl
+
+pub end-order : (left right : ℕ) (customer house table : List ℕ) (held size : ℕ) → numbersOf (endGrounds left right customer house table held size) ≡ endOrder
+unfolding endGrounds settingGrounds marginGrounds listGrounds tableGrounds
+end-order left right customer house table held size = refl
+
+nothing-taken : {grounds : List Row} {text : List ℕ} {looks : ℕ} {given then : TextState} {room after : List ℕ} {r : Taken} → Gives grounds text looks given then room r after → (t : Told)
+    → textSaid (r .answer) ≡ Refuses t → (r .state ≡ given) × (after ≡ room)
+nothing-taken {text = text} {given = given} {then = then} {room = room} g t e = (
+  g .state ∙ ap (λ (s : Said). stateLeft s given then) (sym (g .answered) ∙ e),
+  g .memory ∙ ap (λ (s : Said). textLeft s text room) (sym (g .answered) ∙ e),
+)
+
+module _ (state : TextState) (left right : ℕ) (customer house table room after : List ℕ) (r : Taken) where
+  pub piece-numbered : (piece : List ℕ) → Pieces state left right customer house table piece room r after
+      → Numbered pieceOrder (pieceGrounds left right customer house table (totalNow state) (readState state .size) (length piece) (length room)) (textSaid (r .answer))
+  piece-numbered piece g = numbered pieceOrder _ _ (textSaid (r .answer)) (piece-order left right customer house table (totalNow state) (readState state .size) (length piece) (length room)) (g .answered)
+
+  pub piece-refused : (piece : List ℕ) → Pieces state left right customer house table piece room r after → (t : Told) → textSaid (r .answer) ≡ Refuses t → (r .state ≡ state) × (after ≡ room)
+  piece-refused piece g = nothing-taken g
+
+  pub end-numbered : Ends state left right customer house table room r after
+      → Numbered endOrder (endGrounds left right customer house table (readState state .size) (length room)) (textSaid (r .answer))
+  end-numbered g = numbered endOrder _ _ (textSaid (r .answer)) (end-order left right customer house table (readState state .size) (length room)) (g .answered)
+
+  pub end-refused : Ends state left right customer house table room r after → (t : Told) → textSaid (r .answer) ≡ Refuses t → (r .state ≡ state) × (after ≡ room)
+  end-refused g = nothing-taken g

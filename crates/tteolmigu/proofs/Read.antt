@@ -2,7 +2,7 @@
 use Prim.Native.Nat.{ℕ, _-_, _<_}
 use mathlib.Core.Path.{_≡_}
 use native.Mathlib.Omega.{arith}
-use Rattle.tteolmigu.specs.Bits.{toldBits, foundBits, lineBits, fittingBits, bitsAt, numberIn, listIn, placeIn, marksIn, looksIn, sizeIn, offsetIn, lengthIn, outcomeIn, gapIn, reprintBits, ranOutIn, breaksIn, executedIn}
+use Rattle.tteolmigu.specs.Bits.{toldBits, foundBits, lineBits, fittingBits, bitsAt, numberIn, listIn, placeIn, marksIn, looksIn, sizeIn, offsetIn, lengthIn, outcomeIn, gapIn, reprintBits, writtenBits, textLengthIn, ranOutIn, breaksIn, executedIn}
 
 module _ (number list place : ℕ) (n : number < 256) (l : list < 256) (p : place < 281474976710656) where
   pub told-number : numberIn (toldBits number list place) ≡ number
@@ -66,3 +66,13 @@ module _ (outcome breaks executed : ℕ) (o : outcome < 2) (b : breaks < 65536) 
 
   pub reprint-executed : executedIn (reprintBits outcome breaks executed) ≡ executed
   reprint-executed = omega arith
+
+module _ (length looks : ℕ) (n : length < 16777216) (l : looks < 4294967296) where
+  pub written-number : numberIn (writtenBits length looks) ≡ 0
+  written-number = omega arith
+
+  pub written-length : textLengthIn (writtenBits length looks) ≡ length
+  written-length = omega arith
+
+  pub written-looks : looksIn (writtenBits length looks) ≡ looks
+  written-looks = omega arith

@@ -1,5 +1,6 @@
 -- How an answer stands in the 64 bits that a C function returns. include/tteolmigu.h says the same to a reader of C.
 use Prim.Native.Nat.{ℕ, _+_, _*_, _-_, _/_, _%_, _^_}
+use mathlib.Core.List.{List}
 use lib.ListN.{getD}
 use Rattle.base.specs.Limits.{customerList, houseList}
 use Rattle.base.specs.Grounds.{told, Said, Finds, Refuses}
@@ -10,6 +11,10 @@ use Rattle.lookup.specs.declared.Located.{Located}
 use Rattle.lookup.specs.declared.Located.the-variants.{Customer, House, Nowhere}
 use Rattle.hyphenation.specs.declared.Answer.{Answer}
 use Rattle.hyphenation.specs.declared.Answer.the-variants as answers
+use Rattle.states.specs.Bytes.{stateBytes}
+use Rattle.states.specs.declared.TextState.{TextState}
+use Rattle.running.specs.declared.TextAnswer.{TextAnswer}
+use Rattle.running.specs.declared.TextAnswer.the-variants as texts
 use Rattle.packer.specs.declared.Packing.{Packing}
 use Rattle.packer.specs.declared.Packing.the-variants as packings
 
@@ -68,6 +73,19 @@ abbrev pub bits1980 : Said → ℕ
 bits1980 (Finds values) = reprintBits (getD values 0 0) (getD values 1 0) (getD values 2 0)
 bits1980 (Refuses t) = toldBits (t .number) (t .list) (t .place)
 
+-- CR 6's calls: bits 32 to 55 the length of the text written, bits 0 to 31 the count.
+abbrev pub writtenBits : ℕ → ℕ → ℕ
+writtenBits length looks = bitsAt 32 24 length + bitsAt 0 32 looks
+
+abbrev pub textBits : TextAnswer → ℕ
+textBits (texts.Written length looks) = writtenBits length looks
+textBits (texts.Refused g) = refusalBits g
+
+-- The state's bytes behind such a call: those of the state that it leaves; refused, "nothing is taken or written".
+abbrev pub bytesLeft : TextAnswer → List ℕ → TextState → List ℕ
+bytesLeft (texts.Written length looks) bytes then = stateBytes then
+bytesLeft (texts.Refused g) bytes then = bytes
+
 -- What the header's accessors read of a returned number.
 abbrev pub readBits : ℕ → ℕ → ℕ → ℕ
 readBits low width bits = bits / 2 ^ low % 2 ^ width
@@ -92,6 +110,9 @@ sizeIn bits = readBits 0 48 bits
 
 abbrev pub offsetIn : ℕ → ℕ
 offsetIn bits = readBits 16 32 bits
+
+abbrev pub textLengthIn : ℕ → ℕ
+textLengthIn bits = readBits 32 24 bits
 
 abbrev pub lengthIn : ℕ → ℕ
 lengthIn bits = readBits 0 16 bits

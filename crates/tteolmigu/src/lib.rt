@@ -1,4 +1,4 @@
-// The C interface: the seven calls, each answer as one number of 64 bits. include/tteolmigu.h declares them.
+// The C interface: the nine calls, each answer as one number of 64 bits. include/tteolmigu.h declares them.
 use base::Check;
 use base::Ground;
 use gauge::Fitting;
@@ -7,6 +7,8 @@ use hyphenation::Answer;
 use lookup::Located;
 use machine1980::Answer1980;
 use packer::Packing;
+use running::Taken;
+use running::TextAnswer;
 ghost use mathlib.Core.Path.{_≡_};
 ghost use Prim.Native.Nat.{_-_};
 ghost use lib.ListN.{length};
@@ -17,7 +19,9 @@ ghost use Rattle.packer.specs.Pack.{packAnswer, packLeaves};
 ghost use Rattle.gauge.specs.Fit.{gaugeOf, fitSaid, fitAnswer};
 ghost use Rattle.base.specs.Limits.{budget1980};
 ghost use Rattle.machine1980.specs.Calls.{said1980, answer1980, room1980};
-ghost use Rattle.tteolmigu.specs.Bits.{bitsAt, toldBits, refusalBits, foundBits, lineBits, answerBits, packingBits, checkBits, locatedBits, fittingBits, fitBits, reprintBits, bits1980};
+ghost use Rattle.states.specs.Bytes.{ofBytes};
+ghost use Rattle.running.specs.Calls.{pieceAnswer, pieceNext, pieceRoom, endAnswer, endNext, endRoom};
+ghost use Rattle.tteolmigu.specs.Bits.{bitsAt, toldBits, refusalBits, foundBits, lineBits, answerBits, packingBits, checkBits, locatedBits, fittingBits, fitBits, reprintBits, bits1980, writtenBits, textBits, bytesLeft};
 
 // The bits of a refusal's number, list and place.
 fn told_bits(number: usize, list: usize, place: usize) -> u64
@@ -154,6 +158,31 @@ fn bits_1980(answer: Answer1980) -> u64
     }
 }
 
+// The bits of a finding of a running text's calls.
+fn written_bits(length: usize, looks: usize) -> u64
+    ensures { λ r. ⌜ r ≡ writtenBits length looks ⌝ }
+{
+    let high = length as u64 % 16777216;
+    let low = looks as u64 % 4294967296;
+    high * 4294967296 + low
+}
+
+// The bits of such a call's answer, and where it took something its state's bytes.
+fn put_taken(taken: Taken, state: &mut [u8; states::STATE_SIZE]) -> u64
+    ensures bits { λ r. ⌜ r ≡ textBits (taken .answer) ⌝ }
+    ensures state { λ r. ⌜ now (state .exit) ≡ bytesLeft (taken .answer) (now (state .entry)) (taken .state) ⌝ }
+{
+    let next = taken.state;
+    let answer = taken.answer;
+    match answer {
+        TextAnswer::Written { length, looks } => {
+            states::put_bytes(next, state);
+            written_bits(length, looks)
+        }
+        TextAnswer::Refused(g) => refusal_bits(g),
+    }
+}
+
 // The hyphenating call.
 #[no_mangle]
 pub extern "C" fn tteolmigu_hyphenate<'a>(
@@ -238,4 +267,62 @@ pub extern "C" fn tteolmigu_1980(word: &[u8], room: &mut [u8]) -> u64
     ensures memory { λ r. ⌜ now (room .exit) ≡ room1980 budget1980 (now (word .entry)) (now (room .entry)) ⌝ }
 {
     bits_1980(machine1980::hyphenate_1980(word, room))
+}
+
+// A piece of a running text.
+#[no_mangle]
+pub extern "C" fn tteolmigu_piece<'a>(
+    state: &mut [u8; states::STATE_SIZE],
+    left: u64,
+    right: u64,
+    customer: &'a [u8],
+    house: &'a [u8],
+    table: &[u8],
+    piece: &[u8],
+    room: &mut [u8],
+) -> u64
+    ensures bits { λ r. ⌜ r ≡ textBits (pieceAnswer (ofBytes (now (state .entry))) left right (now (customer .entry)) (now (house .entry)) (now (table .entry)) (now (piece .entry)) (length (now (room .entry)))) ⌝ }
+    ensures state { λ r. ⌜ now (state .exit) ≡ bytesLeft (pieceAnswer (ofBytes (now (state .entry))) left right (now (customer .entry)) (now (house .entry)) (now (table .entry)) (now (piece .entry)) (length (now (room .entry)))) (now (state .entry)) (pieceNext (ofBytes (now (state .entry))) left right (now (customer .entry)) (now (house .entry)) (now (table .entry)) (now (piece .entry)) (length (now (room .entry)))) ⌝ }
+    ensures memory { λ r. ⌜ now (room .exit) ≡ pieceRoom (ofBytes (now (state .entry))) left right (now (customer .entry)) (now (house .entry)) (now (table .entry)) (now (piece .entry)) (now (room .entry)) ⌝ }
+{
+    let given = states::read_bytes(state);
+    let taken = running::take_piece(
+        given,
+        left as usize,
+        right as usize,
+        customer,
+        house,
+        table,
+        piece,
+        room,
+    );
+    put_taken(taken, state)
+}
+
+// The end of a running text.
+#[no_mangle]
+pub extern "C" fn tteolmigu_end<'a>(
+    state: &mut [u8; states::STATE_SIZE],
+    left: u64,
+    right: u64,
+    customer: &'a [u8],
+    house: &'a [u8],
+    table: &[u8],
+    room: &mut [u8],
+) -> u64
+    ensures bits { λ r. ⌜ r ≡ textBits (endAnswer (ofBytes (now (state .entry))) left right (now (customer .entry)) (now (house .entry)) (now (table .entry)) (length (now (room .entry)))) ⌝ }
+    ensures state { λ r. ⌜ now (state .exit) ≡ bytesLeft (endAnswer (ofBytes (now (state .entry))) left right (now (customer .entry)) (now (house .entry)) (now (table .entry)) (length (now (room .entry)))) (now (state .entry)) (endNext (ofBytes (now (state .entry))) left right (now (customer .entry)) (now (house .entry)) (now (table .entry)) (length (now (room .entry)))) ⌝ }
+    ensures memory { λ r. ⌜ now (room .exit) ≡ endRoom (ofBytes (now (state .entry))) left right (now (customer .entry)) (now (house .entry)) (now (table .entry)) (now (room .entry)) ⌝ }
+{
+    let given = states::read_bytes(state);
+    let taken = running::end_text(
+        given,
+        left as usize,
+        right as usize,
+        customer,
+        house,
+        table,
+        room,
+    );
+    put_taken(taken, state)
 }

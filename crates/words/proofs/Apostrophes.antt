@@ -56,7 +56,7 @@ module _ (rule : Rule) where
           ap (λ (z : Bool). rule z (getD t k 0) (drop (suc k) t)) (sym (before-on after b t k)) ∙ next (omega arith)
       go false p h next = p
 
-  all-lead : (at : ℕ) (after : Bool) (w : List ℕ) → allFit rule at after w ≡ Fine → leading rule after w ≡ length w
+  pub all-lead : (at : ℕ) (after : Bool) (w : List ℕ) → allFit rule at after w ≡ Fine → leading rule after w ≡ length w
   unfolding allFit leading
   all-lead at after [] e = refl
   all-lead at after (b ∷ t) e = go (rule after b t) e (all-lead (at + 1) (letter b) t)

@@ -9,5 +9,6 @@ pub mod layout;
 pub mod limits;
 pub mod lists;
 pub mod random;
+pub mod running;
 pub mod sums;
 pub mod words;

@@ -50,6 +50,54 @@ impl Exceptions {
     }
 }
 
+/// Judges both margins.
+fn judge_margins(left: u64, right: u64) -> Result<(), Refusal> {
+    let margins = 1..=WORD_LIMIT as u64;
+    if !margins.contains(&left) || !margins.contains(&right) {
+        return Err(Refusal::plain(1));
+    }
+    Ok(())
+}
+
+/// Margins, both exception lists and a table that were judged and found good.
+pub(super) struct Judged<'a> {
+    left: u64,
+    right: u64,
+    exceptions: Exceptions,
+    table: Table<'a>,
+}
+
+impl<'a> Judged<'a> {
+    /// Judges the margins, then both lists, then the table's length and head.
+    pub(super) fn read(
+        left: u64,
+        right: u64,
+        customer: &[u8],
+        house: &[u8],
+        table: &'a [u8],
+    ) -> Result<Judged<'a>, Refusal> {
+        judge_margins(left, right)?;
+        Ok(Judged {
+            left,
+            right,
+            exceptions: Exceptions::read(customer, house)?,
+            table: Table::new(table).ok_or_else(|| Refusal::plain(9))?,
+        })
+    }
+
+    /// The breaks of a word, given as symbols, and the count of looks.
+    pub(super) fn breaks(&self, letters: &[u8]) -> (Vec<usize>, u32) {
+        let (left, right) = (self.left, self.right);
+        match self.exceptions.find(letters) {
+            Some((_, line)) => (inside(&line.hyphens, letters.len(), left, right), 0),
+            None => {
+                let (levels, looks) = self.table.levels(letters);
+                (breaks(&levels, left, right), looks)
+            }
+        }
+    }
+}
+
 /// Clears the first 64 bytes and puts the marks in.
 fn fill(room: &mut [u8], marks: impl Iterator<Item = (usize, u8)>) {
     room[..MARK_ROOM].fill(0);
@@ -92,23 +140,13 @@ fn try_hyphenate(
     table: &[u8],
     room: &mut [u8],
 ) -> Result<u64, Refusal> {
-    let margins = 1..=WORD_LIMIT as u64;
-    if !margins.contains(&left) || !margins.contains(&right) {
-        return Err(Refusal::plain(1));
-    }
+    judge_margins(left, right)?;
     if room.len() < MARK_ROOM {
         return Err(Refusal::plain(5));
     }
     let letters = read_word(word)?;
-    let exceptions = Exceptions::read(customer, house)?;
-    let table = Table::new(table).ok_or_else(|| Refusal::plain(9))?;
-    let (gaps, looks) = match exceptions.find(&letters) {
-        Some((_, line)) => (inside(&line.hyphens, letters.len(), left, right), 0),
-        None => {
-            let (levels, looks) = table.levels(&letters);
-            (breaks(&levels, left, right), looks)
-        }
-    };
+    let judged = Judged::read(left, right, customer, house, table)?;
+    let (gaps, looks) = judged.breaks(&letters);
     fill(room, gaps.iter().map(|&gap| (gap, 1)));
     Ok(found(gaps.len(), looks))
 }

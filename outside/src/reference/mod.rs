@@ -4,8 +4,9 @@
 //! Nothing here is clever: lists are read into vectors, levels come from
 //! trying every pattern at every place, the checker lists the table's paths,
 //! first fit tries one base after the other, the width of each beginning of a
-//! word is summed from its first letter on, and the machine of 1980 goes from row
-//! to row.
+//! word is summed from its first letter on, the machine of 1980 goes from row to
+//! row, and a piece of a running text is read together with all that was left
+//! open before it.
 
 pub mod binary64;
 pub mod calls;
@@ -14,6 +15,7 @@ pub mod gauge;
 pub mod liang;
 pub mod machine1980;
 pub mod right;
+pub mod running;
 pub mod seen1980;
 pub mod table;
 pub mod tables1980;
@@ -22,6 +24,7 @@ pub mod text;
 pub use calls::{check, hyphenate, levels, lookup, pack};
 pub use gauge::{fit_line, fit_line_by_integers, Gauge, WIDTHS, WIDTH_LIMIT};
 pub use machine1980::{archive, LETTERS_1980};
+pub use running::{end, piece, Given, ROOM_PER_BYTE, RUNNING_TEXT, STATE};
 pub use seen1980::Seen;
 pub use text::{Exception, Pattern};
 

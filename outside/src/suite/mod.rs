@@ -10,6 +10,8 @@ mod limits;
 mod patterns;
 mod real;
 mod rooms;
+mod running;
+mod running_states;
 mod tables;
 mod words;
 
@@ -151,6 +153,18 @@ pub fn all(options: &Options) -> Vec<Test> {
     add("apostrophe-order", apostrophes::order);
     add("apostrophe-limits", apostrophes::limits);
     add("apostrophe-entrata", apostrophes::entrata);
+    add("running-full-texts", running::full_texts);
+    add("running-short-texts", running::short_texts);
+    add("running-all-cuts", running::all_cuts);
+    add("running-long-runs", running::long_runs);
+    add("running-random-cuts", running::random_cuts);
+    add("running-two-apostrophes", running::two_apostrophes);
+    add("running-exceptions", running::exception_words);
+    add("running-changed-lists", running::changed_lists);
+    add("running-real-texts", running::real_texts);
+    add("running-every-byte", running_states::every_byte);
+    add("running-states", running_states::any_states);
+    add("running-hostile", running_states::hostile);
     add("gauge-random", gauge::random);
     add("gauge-edges", gauge::edges);
     add("limits-both", limits::both);
@@ -188,6 +202,16 @@ pub fn all(options: &Options) -> Vec<Test> {
     add("wrapper", rooms::wrapper);
     #[cfg(target_pointer_width = "64")]
     add("huge-lengths", rooms::huge_lengths);
+    add("running-bytes", running::all_bytes);
+    add("running-full-runs", running::full_runs);
+    add("running-lengths", running_states::lengths);
+    add("running-totals", running_states::totals);
+    add("running-large-totals", running_states::large_totals);
+    add("running-rooms", running_states::rooms);
+    add("running-refusal-order", running_states::refusal_order);
+    add("running-figures", running_states::figures);
+    #[cfg(target_pointer_width = "64")]
+    add("running-huge-lengths", running_states::huge_lengths);
     add("gauge-bad-widths", gauge::bad_widths);
     add("gauge-grounds", gauge::grounds);
     add("gauge-bytes-and-sizes", gauge::bytes_and_sizes);

@@ -1,0 +1,9 @@
+he2n
+hena4
+hen5at
+hy3ph
+2io
+1na
+n2at
+o2n
+1tio

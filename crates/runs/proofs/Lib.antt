@@ -1,0 +1,7 @@
+pub mod Laws
+pub mod Views
+pub mod Cut
+pub mod Kept
+pub mod Words
+pub mod Reached
+pub mod Short

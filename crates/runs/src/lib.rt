@@ -1,0 +1,1 @@
+// Definitions and theorems alone: the words of a running text.
