@@ -41,6 +41,13 @@ use Rattle.layout.specs.Bases.{goesOn, hasBase, usedBy, usesCell, fitsAt, reach
 use Rattle.layout.specs.Entries.{equal, firstEqual, addAt, addLevel, addLevels, addPattern, addPatterns, entryList, entriesNeeded, outputFrom, outputFor}
 use Rattle.table.specs.Records.{twoBytes, headBytes, cellBytes, entryBytes}
 use Rattle.layout.specs.Table.{linkTo, pathCell, cellAmong, numberedCells, allEntries, layoutTable}
+use Rattle.writing.specs.Writing.{hyphenated}
+use Rattle.runs.specs.Text.{Holding, Gone, GoneMarked, spread, shown, textOut, unfinished, heldOf}
+use Rattle.runs.specs.Held.{waits, bytesOf as heldBytes}
+use Rattle.runs.specs.Reached.{isWord, canBeHeld, isReached}
+use Rattle.states.specs.State.{runOf}
+use Rattle.flowing.specs.Output.{breakSign, broken, sum, wholeText, wholeLooks}
+use Rattle.flowing.specs.Output as output
 use Rattle.figures.specs.Samples.{bytes, line, nine, letters, emptyTable}
 
 -- An answer in numbers: 0 and its values for a finding, number, list and place for a refusal.
@@ -204,8 +211,33 @@ table =
     ∷ sameList (exceptionsCall (line "'l")) (6 ∷ 2 ∷ 0 ∷ [])
     ∷ sameList (exceptionsCall (letters 31 ++ bytes "-'-" ++ letters 31 ++ bytes "\n")) (0 ∷ [])
     ∷ sameList (exceptionsCall (letters 32 ++ bytes "-'-" ++ letters 31 ++ bytes "\n")) (6 ∷ 2 ∷ 0 ∷ [])
+    -- CR 6: "goes out with a backslash and a hyphen in each break", and an apostrophe behind a word belongs to none.
+    ∷ sameList (wholeText 2 3 [] [] nineTable (bytes "1Hyphenation', on")) (bytes "1Hy" ++ breakSign ++ bytes "phen" ++ breakSign ++ bytes "ation', on")
+    ∷ sameList (wholeText 2 3 (line "l'-en-tra-ta") [] emptyTable (bytes "''L'Entrata''")) (bytes "''L'" ++ breakSign ++ bytes "En" ++ breakSign ++ bytes "trata''")
+    -- "an over-long or exception word adds 0"
+    ∷ eqb (wholeLooks [] [] nineTable (bytes "hyphenation, Hyphenation")) 54
+    ∷ eqb (wholeLooks (line "hy-phen-ation") [] nineTable (bytes "hyphenation, Hyphenation")) 0
+    ∷ eqb (wholeLooks [] [] nineTable (letters 64)) 0
+    -- "one over the word limit goes through unchanged", with what stands behind an apostrophe of it
+    ∷ sameList (wholeText 1 1 [] [] nineTable (letters 62 ++ bytes "'hyphenation' hyphenation"))
+    (letters 62 ++ bytes "'hyphenation' hy" ++ breakSign ++ bytes "phen" ++ breakSign ++ bytes "ation")
+    -- "After each piece exactly the unfinished word is held, with an apostrophe right behind it"
+    ∷ sameList (heldBytes (heldOf 0 (bytes "on hyphena"))) (bytes "hyphena")
+    ∷ sameList (heldBytes (heldOf 0 (bytes "on l'"))) (bytes "l'")
+    ∷ sameList (heldBytes (heldOf 0 (bytes "on l''"))) []
+    ∷ sameList (heldBytes (heldOf 0 (letters 63 ++ bytes "'"))) (letters 63 ++ bytes "'")
+    -- "a run that passes the word limit is let go at once, as is each later byte of it, a trailing apostrophe too"
+    ∷ sameList (map (λ n. runOf (heldOf 0 (letters n))) (63 ∷ 64 ∷ 65 ∷ [])) (0 ∷ 1 ∷ 1 ∷ [])
+    ∷ eqb (runOf (heldOf 0 (letters 64 ++ bytes "'"))) 2
+    ∷ eqb (runOf (heldOf 0 (letters 64 ++ bytes "'a"))) 1
+    ∷ eqb (runOf (heldOf 0 (letters 64 ++ bytes "''a"))) 0
+    -- states that calls could leave, and such as they couldn't
+    ∷ sameList (map (λ n. bit (isReached (Holding (bytes "l'")) n)) (1 ∷ 2 ∷ 9 ∷ [])) (0 ∷ 1 ∷ 1 ∷ [])
+    ∷ sameList (map (λ n. bit (isReached Gone n)) (63 ∷ 64 ∷ [])) (0 ∷ 1 ∷ [])
+    ∷ sameList (map (λ n. bit (isReached GoneMarked n)) (64 ∷ 65 ∷ [])) (0 ∷ 1 ∷ [])
+    ∷ sameList (map (λ kept. bit (canBeHeld kept)) ([] ∷ bytes "a" ∷ bytes "'" ∷ bytes "a''" ∷ bytes "a1" ∷ letters 64 ∷ [])) (1 ∷ 1 ∷ 0 ∷ 0 ∷ 0 ∷ 0 ∷ [])
     ∷ []
 
 pub figures : allOf table ≡ true
-unfolding table nine count levels breaks small capital letter lower digit symbolOf symbolsOf firstOf startsLetter isBetween withApostrophes leading groundsBy wordSymbols rowOf inner glue cut isNil startsWith anyOf letterSymbol letterNext apostrophesFit lineLetter patternForm patternBytes goodPattern exceptionForm exceptionBytes goodException before goodLine firstBad judgeLines patternGrounds listGrounds sameList findLine find findEither levelsFrom patternOf patternsOf begins levelHere levelOf highest liang hyphenAt inMargins odd lineBreak levelBreak isBreak badMargin levelsCall hyphenateCall patternsCall exceptionsCall lookupCall judgeLookup locate allFit judgeLength judgeBy judgeLists judgeSize emptyTable numberAt cellCount entryCount formed tableGrounds cellsFrom entriesFrom cellsOf entriesOf look entryAt setting chainStep chainFrom chain setStep setFrom lookStep looksFrom settings looks highestSet sheetFrom sheet nonzero levelAt levelSheet wordLooks breakSheet breakLooks roomGrounds marginGrounds levelsGrounds hyphenateGrounds packed baseOf sizes common onward along soundStep soundFrom sound nextIn allFrom kindsFrom kindsTest exactTest childAt noneBetween passedOver followStep follow besides patternsRight rightTest checkGrounds putNumber isFree serves smallest baseFor inside putCell putCells cellOf putLink placeAt place opens placeLength placeLengths layoutOf usedFrom holds findEntry putEntry enterAt enter enterLevels enterPattern putOutput outputOf outputsOf putKinds bytesOf finish fitLayout firstFit layoutSizes goesOn hasBase usedBy usesCell fitsAt reach leastBase nextBase pathsAt pathsFrom longestLength pathsOf placeAll basesOf topFrom topOf cellsNeeded equal firstEqual addAt addLevel addLevels addPattern addPatterns entryList entriesNeeded outputFrom outputFor twoBytes headBytes cellBytes entryBytes linkTo pathCell cellAmong numberedCells allEntries layoutTable
+unfolding table nine count levels breaks small capital letter lower digit symbolOf symbolsOf firstOf startsLetter isBetween withApostrophes leading groundsBy wordSymbols rowOf inner glue cut isNil startsWith anyOf letterSymbol letterNext apostrophesFit lineLetter patternForm patternBytes goodPattern exceptionForm exceptionBytes goodException before goodLine firstBad judgeLines patternGrounds listGrounds sameList findLine find findEither levelsFrom patternOf patternsOf begins levelHere levelOf highest liang hyphenAt inMargins odd lineBreak levelBreak isBreak badMargin levelsCall hyphenateCall patternsCall exceptionsCall lookupCall judgeLookup locate allFit judgeLength judgeBy judgeLists judgeSize emptyTable numberAt cellCount entryCount formed tableGrounds cellsFrom entriesFrom cellsOf entriesOf look entryAt setting chainStep chainFrom chain setStep setFrom lookStep looksFrom settings looks highestSet sheetFrom sheet nonzero levelAt levelSheet wordLooks breakSheet breakLooks roomGrounds marginGrounds levelsGrounds hyphenateGrounds packed baseOf sizes common onward along soundStep soundFrom sound nextIn allFrom kindsFrom kindsTest exactTest childAt noneBetween passedOver followStep follow besides patternsRight rightTest checkGrounds putNumber isFree serves smallest baseFor inside putCell putCells cellOf putLink placeAt place opens placeLength placeLengths layoutOf usedFrom holds findEntry putEntry enterAt enter enterLevels enterPattern putOutput outputOf outputsOf putKinds bytesOf finish fitLayout firstFit layoutSizes goesOn hasBase usedBy usesCell fitsAt reach leastBase nextBase pathsAt pathsFrom longestLength pathsOf placeAll basesOf topFrom topOf cellsNeeded equal firstEqual addAt addLevel addLevels addPattern addPatterns entryList entriesNeeded outputFrom outputFor twoBytes headBytes cellBytes entryBytes linkTo pathCell cellAmong numberedCells allEntries layoutTable hyphenated spread shown textOut unfinished heldOf waits isWord canBeHeld isReached broken sum output.wordLooks wholeText wholeLooks
 figures = refl

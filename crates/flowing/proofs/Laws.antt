@@ -83,8 +83,9 @@ module _ (left right : ℕ) (word customer house table marks : List ℕ) (good :
       ap (λ (m : List ℕ). hyphenated breakSign m word) written-sheet
       ∙ marks-front breakSign (breaksSheet left right word customer house table) (drop roomSize marks) word (omega (arith, word-fits wordLimit word good, sheet-long))
 
-  pub marked-fits : (at n : ℕ) → at + roomPerByte * length word ≤ n → at + length (hyphenated breakSign after word) ≤ n
-  marked-fits at n h = omega (arith, word-short breakSign after word)
+  -- with any sign of two bytes
+  pub marked-fits : (sign : List ℕ) → length sign ≡ 2 → (at n : ℕ) → at + roomPerByte * length word ≤ n → at + length (hyphenated sign after word) ≤ n
+  marked-fits sign two at n h = omega (arith, h, rw two at (word-short sign after word))
 
   pub word-shows : {marked looks : ℕ} → r ≡ answers.Found marked looks → {at end : ℕ} {room filled : List ℕ} → Put (hyphenated breakSign after word) at room end filled
       → Shows (broken left right customer house table word) (wordLooks customer house table word) at room (record { end = end; looks = looks }) filled

@@ -5,7 +5,7 @@ use Rattle.flowing.proofs.put_word.Statement.{statement}
 use Rattle.flowing.proofs.put_word.Tie as tie
 
 put-hyphenated-requires : tie.Need-put-hyphenated-requires
-put-hyphenated-requires c κs = (marks-long _ _ (c .before .before .before .before .before .before .before .before .before .before .before .before .before .before .args .word .now) _ _ _ _ (c .before .before .before .before .before .before .before .before .before .before .before .before .before .before .pre .0) refl (c .before .before .before .before .before .before .before .hyphenate-word .ensures), marked-fits _ _ (c .before .before .before .before .before .before .before .before .before .before .before .before .before .before .args .word .now) _ _ _ _ (c .before .before .before .before .before .before .before .before .before .before .before .before .before .before .pre .0) refl (c .before .before .before .before .before .before .before .hyphenate-word .ensures) _ _ (c .before .before .before .before .before .before .before .before .before .before .before .before .before .before .pre .1))
+put-hyphenated-requires c κs = (marks-long _ _ (c .before .before .before .before .before .before .before .before .before .before .before .before .before .before .args .word .now) _ _ _ _ (c .before .before .before .before .before .before .before .before .before .before .before .before .before .before .pre .0) refl (c .before .before .before .before .before .before .before .hyphenate-word .ensures), marked-fits _ _ (c .before .before .before .before .before .before .before .before .before .before .before .before .before .before .args .word .now) _ _ _ _ (c .before .before .before .before .before .before .before .before .before .before .before .before .before .before .pre .0) refl (c .before .before .before .before .before .before .before .hyphenate-word .ensures) _ refl _ _ (c .before .before .before .before .before .before .before .before .before .before .before .before .before .before .pre .1))
 
 returns : tie.Need-returns
 returns c = word-shows _ _ (c .before .before .before .before .before .before .before .before .before .before .before .before .before .before .before .before .before .args .word .now) _ _ _ _ (c .before .before .before .before .before .before .before .before .before .before .before .before .before .before .before .before .before .pre .0) refl (c .before .before .before .before .before .before .before .before .before .before .hyphenate-word .ensures) (c .before .before .before .before .before .before .before .answer .given .1) (c .before .before .put-hyphenated .ensures)

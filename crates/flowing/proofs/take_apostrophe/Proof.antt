@@ -1,4 +1,5 @@
 use borrow.Author.Needs.{needs}
+use native.Mathlib.Omega.{arith}
 use mathlib.Core.Logic.{inl, inr}
 use mathlib.Core.Path.{sym, _∙_, ap}
 use Rattle.words.specs.Symbols.{letter}
@@ -14,7 +15,7 @@ returns : tie.Need-returns
 returns c = mark-passed (c .before .before .before .before .before .before .before .before .before .before .before .args .left) (c .before .before .before .before .before .before .before .before .before .before .before .args .right) (c .before .before .before .before .before .before .before .before .before .before .before .args .customer .now) (c .before .before .before .before .before .before .before .before .before .before .before .args .house .now) (c .before .before .before .before .before .before .before .before .before .before .before .args .table .now) (c .before .before .before .before .before .before .before .before .before .before .before .args .b) (c .before .before .before .before .before .before .before .before .before .before .before .args .f) (c .before .before .before .before .before .before .before .before .before .before .before .args .held .now) (c .before .before .before .before .before .before .before .before .before .before .before .args .room .now) (c .before .before .before .before .before .before .before .before .before .before .before .pre .1 .shaped) (ap letter (c .before .before .before .before .before .before .before .before .before .before .before .pre .0) ∙ apostrophe-none) (c .before .before .before .before .before .before .before .before .before .before .before .pre .0) (c .before .before .before .before .if1 .taken) (c .before .before .pass-on .ensures)
 
 ends-letter-requires : tie.Need-ends-letter-requires
-ends-letter-requires c κs = kept-within (c .before .before .before .before .before .before .before .before .args .f) (c .before .before .before .before .before .before .before .before .args .held .now) (c .before .before .before .before .before .before .before .before .args .room .now) (c .before .before .before .before .before .before .before .before .pre .1)
+ends-letter-requires c κs = omega (arith, kept-within (c .before .before .before .before .before .before .before .before .args .f) (c .before .before .before .before .before .before .before .before .args .held .now) (c .before .before .before .before .before .before .before .before .args .room .now) (c .before .before .before .before .before .before .before .before .pre .1))
 
 hold-byte-requires : tie.Need-hold-byte-requires
 hold-byte-requires c κs = mark-place (c .before .before .before .before .before .before .before .before .before .before .before .args .f) (c .before .before .before .before .before .before .before .before .before .before .before .args .held .now) (c .before .before .before .before .before .before .before .before .before .before .before .args .room .now) (c .before .before .before .before .before .before .before .before .before .before .before .pre .1) (sym (c .before .before .ends-letter .ensures) ∙ c .before .if2 .taken)
