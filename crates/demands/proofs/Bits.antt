@@ -58,7 +58,6 @@ use Rattle.machine1980.proofs.Order.{ordered-1980, judged-fine}
 use Rattle.machine1980.proofs.Budgets.{mostExecuted, Within, within}
 use Rattle.states.specs.State.{readState}
 use Rattle.states.specs.Bytes.{stateSize, ofBytes}
-use Rattle.states.specs.declared.TextState.{TextState}
 use Rattle.states.proofs.Theorems.{read-left-state}
 use Rattle.states.proofs.Bytes.{bytes-wide}
 use Rattle.flowing.specs.Output.{pieceText, pieceLooks, endText, endLooks}

@@ -1,45 +1,42 @@
 -- One law for each way through the code.
-use Prim.Native.Nat.{ℕ, zero, suc, _+_, _*_, _-_, _≤_, _<_}
-use mathlib.Core.Bool.{Bool, true, false, cond, _&&_, _||_}
-use mathlib.Core.List.{List, [], _∷_, _++_, append-nil}
+use Prim.Native.Nat.{ℕ, _+_, _*_, _-_, _≤_, _<_}
+use mathlib.Core.Bool.{Bool, true, false, _||_}
+use mathlib.Core.List.{List, [], _∷_, _++_}
 use mathlib.Core.Path.{_≡_, refl, sym, _∙_, ap}
 use native.Mathlib.Nat.{sub-zero, add-zero}
 use native.Mathlib.Numerals.{add-one}
 use native.Mathlib.Decide.{ℕ-discrete}
 use native.Mathlib.Omega.{arith}
-use borrow.Author.Tests.{eqb-true, eq-eqb, ne-eqb, lt-ltb, le-ltb}
-use lib.Dec.{eqb, ltb}
+use borrow.Author.Tests.{eq-eqb, ne-eqb}
 use lib.ListN.{length, getD, set, take, drop, length-append, length-set}
 use lib.Seq.{getD-take, length-take-le, take-suc, take-set-le, getD-set-same}
-use Rattle.base.specs.Limits.{wordLimit, roomSize, heldLimit, roomPerByte, runningText}
+use Rattle.base.specs.Limits.{wordLimit, roomSize, roomPerByte, runningText}
 use Rattle.base.specs.declared.Check.{Check}
 use Rattle.base.specs.declared.Check.the-variants.{Fine, Refused}
 use Rattle.base.specs.declared.Ground.{Ground}
-use Rattle.base.specs.Grounds.{first}
 use Rattle.base.proofs.Lists.{never, clash}
-use Rattle.rooms.specs.Rooms.{sheet, written, isShort, nonzero}
+use Rattle.rooms.specs.Rooms.{sheet, written, nonzero}
 use Rattle.rooms.proofs.Sheets.{sheet-length}
 use Rattle.writing.specs.Put.{Put}
 use Rattle.writing.specs.Writing.{hyphenated}
-use Rattle.writing.proofs.Going.{go-start, go-end, put-as, first-fits, second-fits, both-put}
+use Rattle.writing.proofs.Going.{go-start, go-end, put-as, second-fits, both-put}
 use Rattle.writing.proofs.Laws.{word-short, marks-front}
 use Rattle.words.specs.Symbols.{letter, apostrophe}
 use Rattle.words.specs.Words.{judgeWord}
 use Rattle.words.proofs.Laws.{word-fits}
 use Rattle.hyphenation.specs.Breaks.{breakSheet}
-use Rattle.hyphenation.specs.Calls.{judgeRoom, judgeWordAlone, Answered, breaksSheet, breaksLooks, WordBreaks, answer}
+use Rattle.hyphenation.specs.Calls.{judgeRoom, judgeWordAlone, Answered, breaksSheet, breaksLooks, WordBreaks}
 use Rattle.hyphenation.specs.declared.Answer.{Answer}
 use Rattle.hyphenation.specs.declared.Answer.the-variants as answers
 use Rattle.table.specs.Table.{rootBase, cellsOf}
 use Rattle.hyphenation.proofs.Order.{word-alone-ordered, computed}
 use Rattle.hyphenation.proofs.Theorems.{breaks-few}
-use Rattle.runs.specs.Text.{spread, Held, Holding, Gone, GoneMarked}
 use Rattle.runs.specs.Held.{lastOf, butLast, waits, finished}
 use Rattle.runs.specs.Reached.{isFine, isWord, canBeHeld}
 use Rattle.runs.proofs.Laws.{zero-none, letter-other}
 use Rattle.runs.proofs.Words.{good-last}
 use Rattle.runs.proofs.Short.{finished-short}
-use Rattle.flowing.specs.Output.{breakSign, asRead, broken, uncounted, wordLooks, counted, sum, finishedText, finishedLooks}
+use Rattle.flowing.specs.Output.{breakSign, asRead, broken, wordLooks, sum, finishedText, finishedLooks}
 use Rattle.flowing.specs.Post.{lookLimit, Shows, Holds, Goes, Finishes}
 use Rattle.flowing.specs.declared.Flow.{Flow}
 use Rattle.flowing.specs.declared.Shown.{Shown}

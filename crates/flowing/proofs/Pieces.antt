@@ -1,16 +1,15 @@
 -- A piece, byte by byte.
-use Prim.Native.Nat.{ℕ, zero, suc, _+_, _*_, _-_, _≤_, _<_}
+use Prim.Native.Nat.{ℕ, _+_, _*_, _-_, _≤_, _<_}
 use mathlib.Core.Bool.{Bool, true, false, cond}
 use mathlib.Core.List.{List, [], _∷_, _++_}
 use mathlib.Core.Path.{_≡_, refl, sym, _∙_, ap}
 use native.Mathlib.Nat.{add-zero, sub-zero}
 use native.Mathlib.Omega.{arith}
 use lib.Dec.{ltb}
-use lib.ListN.{length, getD, drop, length-append, drop-of-length-le}
+use lib.ListN.{length, getD, drop, drop-of-length-le}
 use lib.Seq.{length-sets}
-use Rattle.base.specs.Limits.{wordLimit, heldLimit, roomPerByte, runningText}
+use Rattle.base.specs.Limits.{wordLimit, roomPerByte}
 use Rattle.base.proofs.Lists.{cons-at}
-use Rattle.writing.specs.Put.{Put}
 use Rattle.writing.proofs.Going.{Going, go-start, go-step, go-end}
 use Rattle.words.specs.Symbols.{letter}
 use Rattle.runs.specs.Text.{spread, Held, Holding, Gone, GoneMarked}
@@ -19,7 +18,7 @@ use Rattle.runs.specs.Reached.{canBeHeld, isReached}
 use Rattle.runs.proofs.Short.{given-short, piece-short}
 use Rattle.runs.proofs.Reached.{next-reached}
 use Rattle.flowing.specs.Output.{asRead, broken, uncounted, counted, sum, finishedLooks, givenText, givenLooks, pieceText, pieceLooks}
-use Rattle.flowing.specs.Post.{lookLimit, flowHeld, Shaped, Ready, Steps, Flows}
+use Rattle.flowing.specs.Post.{lookLimit, flowHeld, Ready, Steps, Flows}
 use Rattle.flowing.specs.declared.Flow.{Flow}
 use Rattle.flowing.proofs.Laws.{broken-short, held-few}
 use Rattle.flowing.proofs.Steps.{no-looks, sum-append, size-is, held-can}

@@ -1,29 +1,28 @@
 -- One byte: each way through the code takes the step that the definition takes.
-use Prim.Native.Nat.{ℕ, zero, suc, _+_, _*_, _≤_, _<_}
-use mathlib.Core.Bool.{Bool, true, false, cond, _&&_}
+use Prim.Native.Nat.{ℕ, zero, suc, _+_, _≤_, _<_}
+use mathlib.Core.Bool.{true, false, and-false}
 use mathlib.Core.List.{List, [], _∷_, _++_}
 use mathlib.Core.Logic.{_⊎_, inl, inr}
 use mathlib.Core.Path.{_≡_, refl, sym, _∙_, ap}
 use native.Mathlib.Nat.{add-zero}
 use native.Mathlib.Decide.{ℕ-discrete}
 use native.Mathlib.Omega.{arith}
-use borrow.Author.Tests.{eq-eqb, ne-eqb, eqb-true, lt-ltb, le-ltb}
-use lib.Dec.{eqb, ltb}
-use lib.ListN.{length, take, length-append}
+use borrow.Author.Tests.{eq-eqb, ne-eqb, lt-ltb, le-ltb}
+use lib.Dec.{eqb}
+use lib.ListN.{length, take}
 use lib.Seq.{length-take-le}
-use Rattle.base.specs.Limits.{wordLimit, heldLimit, roomPerByte, runningText}
+use Rattle.base.specs.Limits.{wordLimit, heldLimit}
 use Rattle.base.proofs.Lists.{never, both}
-use Rattle.writing.specs.Put.{Put}
 use Rattle.writing.proofs.Going.{go-start, go-end, put-as}
 use Rattle.words.specs.Symbols.{letter, apostrophe}
 use Rattle.words.proofs.Laws.{word-fits}
 use Rattle.runs.specs.Text.{spread, Held, Holding, Gone, GoneMarked}
-use Rattle.runs.specs.Held.{lastOf, joins, next, heldAfter, finished, given, bytesOf}
+use Rattle.runs.specs.Held.{lastOf, joins, next, finished, given, bytesOf}
 use Rattle.runs.specs.Reached.{canBeHeld, isReached}
 use Rattle.runs.proofs.Laws.{zero-none, letter-other}
 use Rattle.states.specs.State.{heldBy}
 use Rattle.flowing.specs.Output.{asRead, broken, uncounted, counted, sum, finishedText, finishedLooks, givenText, givenLooks}
-use Rattle.flowing.specs.Post.{lookLimit, flowHeld, Holds, Goes, Finishes, Shaped, Ready, Steps}
+use Rattle.flowing.specs.Post.{flowHeld, Holds, Goes, Finishes, Shaped, Ready, Steps}
 use Rattle.flowing.specs.declared.Flow.{Flow}
 use Rattle.flowing.proofs.Laws.{held-good}
 
@@ -163,11 +162,7 @@ module _ (left right : ℕ) (customer house table : List ℕ) (b : ℕ) (f : Flo
   no-join : (b ≡ apostrophe → ⊥) ⊎ (letter (lastOf kept) ≡ false) → joins kept b ≡ false
   unfolding joins
   no-join (inl n) = rw (ne-eqb b apostrophe n)
-  no-join (inr m) = rw m (go (eqb b apostrophe))
-    where
-      go : (z : Bool) → (z && false) ≡ false
-      go true = refl
-      go false = refl
+  no-join (inr m) = rw m (and-false (eqb b apostrophe))
 
   -- where nothing is held
   nothing : f .size ≡ 0 → kept ≡ []

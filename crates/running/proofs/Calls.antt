@@ -2,7 +2,7 @@
 use Prim.Native.Nat.{ℕ, _+_, _*_, _≤_}
 use mathlib.Core.Bool.{true, false}
 use mathlib.Core.List.{List}
-use mathlib.Core.Path.{_≡_, refl, sym, _∙_, ap, subst}
+use mathlib.Core.Path.{_≡_, sym, _∙_, ap, subst}
 use native.Mathlib.Omega.{arith}
 use borrow.Author.Tests.{ltb-false}
 use lib.ListN.{length, take}
@@ -17,8 +17,8 @@ use Rattle.runs.specs.Held.{heldAfter}
 use Rattle.runs.specs.Reached.{canBeHeld}
 use Rattle.states.specs.State.{stateOf, newText, heldIn, Left, readState, Reads}
 use Rattle.states.specs.declared.TextState.{TextState}
-use Rattle.flowing.specs.Output.{finishedText, finishedLooks, pieceText, pieceLooks, endText, endLooks}
-use Rattle.running.specs.Calls.{passesEnd, shortFor, judgeSetting, judgePiece, judgeEnd, heldNow, totalNow, Given, PiecesDone, EndsDone}
+use Rattle.flowing.specs.Output.{pieceText, pieceLooks, endText, endLooks}
+use Rattle.running.specs.Calls.{passesEnd, shortFor, judgeSetting, judgePiece, judgeEnd, totalNow, Given, PiecesDone, EndsDone}
 use Rattle.running.specs.declared.Taken.{Taken}
 use Rattle.running.specs.declared.TextAnswer.{TextAnswer}
 use Rattle.running.specs.declared.TextAnswer.the-variants as answers

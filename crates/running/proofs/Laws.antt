@@ -1,7 +1,7 @@
 -- One law for each way through the code.
 use Prim.Native.Nat.{ℕ, zero, suc, _+_, _*_, _-_, _≤_, _<_}
-use mathlib.Core.Bool.{Bool, true, false, cond}
-use mathlib.Core.List.{List, [], _∷_, _++_, append-nil}
+use mathlib.Core.Bool.{Bool, true, false}
+use mathlib.Core.List.{List, [], _++_, append-nil}
 use mathlib.Core.Path.{_≡_, refl, sym, _∙_, ap}
 use native.Mathlib.Nat.{sub-zero, zero-add}
 use native.Mathlib.Decide.{decLt}
@@ -9,9 +9,8 @@ use native.Mathlib.Omega.{arith}
 use borrow.Author.Tests.{lt-ltb, le-ltb, ltb-false}
 use lib.Dec.{ltb}
 use lib.ListN.{length, take, drop, replicate, length-append, length-replicate, drop-of-length-le}
-use lib.Seq.{sets, sets-eq, length-take-le}
+use lib.Seq.{sets-eq, length-take-le}
 use Rattle.base.specs.Limits.{heldLimit, roomPerByte, runningText}
-use Rattle.base.specs.Grounds.{first, refuseIf}
 use Rattle.base.specs.declared.Check.{Check}
 use Rattle.base.specs.declared.Check.the-variants.{Fine, Refused}
 use Rattle.base.specs.declared.Ground.{Ground}
@@ -19,20 +18,18 @@ use Rattle.base.specs.declared.Ground.the-variants.{TextRoomShort, RunningLong}
 use Rattle.rooms.specs.Rooms.{isShort, filled}
 use Rattle.writing.specs.Put.{Put}
 use Rattle.runs.specs.Text.{Held, Holding, Gone, GoneMarked}
-use Rattle.runs.specs.Held.{finished, flushed, heldAfter, bytesOf}
+use Rattle.runs.specs.Held.{finished, flushed, bytesOf}
 use Rattle.runs.specs.Reached.{canBeHeld, isReached}
 use Rattle.runs.proofs.Reached.{reached-exactly}
-use Rattle.states.specs.State.{runOf, padded, stateOf, newText, heldBy, heldIn, Left}
+use Rattle.states.specs.State.{runOf, padded, stateOf, heldBy, heldIn, Left}
 use Rattle.states.specs.declared.TextState.{TextState}
 use Rattle.states.proofs.Theorems.{held-in}
 use Rattle.flowing.specs.Output.{asRead, broken, uncounted, counted, sum, finishedText, finishedLooks, pieceText, pieceLooks, endText, endLooks}
-use Rattle.flowing.specs.Post.{lookLimit, flowHeld, Shows, Shaped, Ready, Flows}
+use Rattle.flowing.specs.Post.{flowHeld, Shows, Shaped, Ready, Flows}
 use Rattle.flowing.specs.declared.Flow.{Flow}
 use Rattle.flowing.specs.declared.Shown.{Shown}
 use Rattle.flowing.proofs.Steps.{bytes-are, held-can}
-use Rattle.running.specs.Calls.{passesEnd, shortFor, judgeSetting, judgePiece, judgeEnd, Given, PiecesDone, EndsDone}
-use Rattle.running.specs.declared.Taken.{Taken}
-use Rattle.running.specs.declared.TextAnswer.{TextAnswer}
+use Rattle.running.specs.Calls.{passesEnd, shortFor, judgeSetting, judgePiece, judgeEnd, PiecesDone, EndsDone}
 use Rattle.running.specs.declared.TextAnswer.the-variants as answers
 
 -- ground 21

@@ -1,22 +1,22 @@
 -- How long an output and how large a count can be.
 use Prim.Native.Nat.{ℕ, _+_, _*_, _≤_}
 use mathlib.Core.Bool.{true}
-use mathlib.Core.List.{List, []}
-use mathlib.Core.Path.{_≡_, refl, sym, _∙_, ap}
+use mathlib.Core.List.{List}
+use mathlib.Core.Path.{_≡_, _∙_, ap}
 use native.Mathlib.Omega.{arith}
 use borrow.Author.Tests.{leb-true}
 use lib.ListN.{length}
 use Rattle.base.specs.Limits.{roomPerByte, runningText}
 use Rattle.base.proofs.Lists.{both}
 use Rattle.runs.specs.Text.{Held, Holding, Gone, GoneMarked}
-use Rattle.runs.specs.Held.{heldAfter, flushed, bytesOf}
+use Rattle.runs.specs.Held.{flushed, bytesOf}
 use Rattle.runs.specs.Reached.{canBeHeld, isReached}
 use Rattle.runs.proofs.Short.{flushed-short}
 use Rattle.runs.proofs.Reached.{reached-exactly}
 use Rattle.states.specs.State.{heldIn, Left}
 use Rattle.states.specs.declared.TextState.{TextState}
 use Rattle.states.proofs.Theorems.{held-in}
-use Rattle.flowing.specs.Output.{asRead, broken, uncounted, counted, sum, finishedLooks, pieceText, pieceLooks, endText, endLooks}
+use Rattle.flowing.specs.Output.{asRead, broken, sum, finishedLooks, pieceText, pieceLooks, endText, endLooks}
 use Rattle.flowing.specs.Post.{lookLimit}
 use Rattle.flowing.proofs.Laws.{broken-short, held-few}
 use Rattle.flowing.proofs.Pieces.{text-short, piece-few}

@@ -1,23 +1,20 @@
 -- What the promises of the two calls come to: however a text is cut, what is held, which states are left.
-use Prim.Native.Nat.{ℕ, _+_, _*_, _≤_, _<_}
-use mathlib.Core.Bool.{Bool, true, false, cond}
-use mathlib.Core.List.{List, [], _∷_, _++_, append-nil, append-assoc}
+use Prim.Native.Nat.{ℕ, _+_, _*_, _≤_}
+use mathlib.Core.Bool.{true, cond}
+use mathlib.Core.List.{List, [], _∷_, _++_}
 use mathlib.Core.Path.{_≡_, refl, sym, _∙_, ap, subst}
 use native.Mathlib.Nat.{add-zero, zero-add}
 use native.Mathlib.Omega.{arith}
 use borrow.Author.Tests.{le-ltb}
-use lib.Dec.{ltb}
 use lib.ListN.{length, length-append}
-use Rattle.base.specs.Limits.{heldLimit, roomPerByte, runningText}
-use Rattle.base.specs.Grounds.{first, refuseIf}
+use Rattle.base.specs.Limits.{roomPerByte, runningText}
+use Rattle.base.specs.Grounds.{refuseIf}
 use Rattle.base.specs.declared.Check.{Check}
 use Rattle.base.specs.declared.Check.the-variants.{Fine, Refused}
 use Rattle.base.specs.declared.Ground.the-variants.{RunningLong}
-use Rattle.base.proofs.Lists.{never}
 use Rattle.base.proofs.Grounds.{both-fine, not-refused}
-use Rattle.rooms.specs.Rooms.{isShort}
-use Rattle.runs.specs.Text.{Held, Holding, textOut, heldOf}
-use Rattle.runs.specs.Held.{heldAfter, pieceOut, flushed, joined, bytesOf}
+use Rattle.runs.specs.Text.{Held, Holding, heldOf}
+use Rattle.runs.specs.Held.{heldAfter, pieceOut, flushed, joined}
 use Rattle.runs.specs.Reached.{isFine, canBeHeld, isReached}
 use Rattle.runs.proofs.Cut.{piece-cut, one-piece}
 use Rattle.runs.proofs.Kept.{held-is, after-append}

@@ -15,7 +15,7 @@ use Rattle.rooms.specs.Rooms.{isShort}
 use Rattle.lists.specs.Lists.{listGrounds, judgeLists}
 use Rattle.table.specs.Table.{tableGrounds, judgeTable}
 use Rattle.hyphenation.specs.Calls.{marginGrounds, judgeMargins}
-use Rattle.runs.specs.Text.{Held, Holding}
+use Rattle.runs.specs.Text.{Held}
 use Rattle.runs.specs.Held.{heldAfter}
 use Rattle.states.specs.State.{stateOf, newText, heldIn, readState}
 use Rattle.states.specs.declared.TextState.{TextState}

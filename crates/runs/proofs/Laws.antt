@@ -1,18 +1,17 @@
 -- Laws on runs and on what is held, that both theorems cite: how a run goes on, and the last of the bytes held.
-use Prim.Native.Nat.{ℕ, zero, suc, _+_, _-_, _≤_, _<_}
-use mathlib.Core.Bool.{Bool, true, false, cond, _&&_}
+use Prim.Native.Nat.{ℕ, suc, _+_, _-_}
+use mathlib.Core.Bool.{Bool, true, false, and-true, and-false}
 use mathlib.Core.List.{List, [], _∷_, _++_}
 use mathlib.Core.Path.{_≡_, refl, sym, _∙_, ap}
 use native.Mathlib.Omega.{arith}
-use borrow.Author.Tests.{eqb-true, eqb-false, eq-eqb, ne-eqb}
+use borrow.Author.Tests.{ne-eqb}
 use lib.Dec.{eqb}
-use lib.ListN.{length, getD, take, length-append}
+use lib.ListN.{length, getD, length-append}
 use lib.Seq.{getD-append-add, take-at}
-use Rattle.base.specs.Limits.{wordLimit}
 use Rattle.base.proofs.Lists.{never}
 use Rattle.words.specs.Symbols.{letter, small, capital, apostrophe}
 use Rattle.words.specs.Words.{startsLetter, isBetween, withApostrophes, leading}
-use Rattle.runs.specs.Text.{onward, Held, Holding, Gone, GoneMarked}
+use Rattle.runs.specs.Text.{onward}
 use Rattle.runs.specs.Held.{lastOf, butLast, waits, joins, finished}
 
 -- no apostrophe is a letter
@@ -44,11 +43,7 @@ module _ (b : ℕ) (t : List ℕ) where
 
   pub off-mark : letter b ≡ false → startsLetter t ≡ false → onward (b ∷ t) ≡ 0
   unfolding leading withApostrophes isBetween
-  off-mark e l = rw (e, l) (go (eqb b apostrophe))
-    where
-      go : (z : Bool) → cond (z && false) (suc (leading withApostrophes false t)) 0 ≡ 0
-      go true = refl
-      go false = refl
+  off-mark e l = rw (e, l, and-false (eqb b apostrophe))
 
   pub off-other : letter b ≡ false → eqb b apostrophe ≡ false → onward (b ∷ t) ≡ 0
   unfolding leading withApostrophes isBetween
@@ -69,27 +64,15 @@ but-last-is h b = take-at h (b ∷ []) (length (h ++ (b ∷ [])) - 1) (one-more 
 -- an apostrophe is held behind a letter, and not behind another nor where nothing is held
 pub joins-none : (b : ℕ) → joins [] b ≡ false
 unfolding joins
-joins-none b = rw zero-none (go (eqb b apostrophe))
-  where
-    go : (z : Bool) → (z && false) ≡ false
-    go true = refl
-    go false = refl
+joins-none b = rw zero-none (and-false (eqb b apostrophe))
 
 pub joins-letter : (h : List ℕ) (b : ℕ) → letter (lastOf h) ≡ true → joins h b ≡ eqb b apostrophe
 unfolding joins
-joins-letter h b l = rw l (go (eqb b apostrophe))
-  where
-    go : (z : Bool) → (z && true) ≡ z
-    go true = refl
-    go false = refl
+joins-letter h b l = rw l (and-true (eqb b apostrophe))
 
 pub joins-mark : (h : List ℕ) (b : ℕ) → joins (h ++ (apostrophe ∷ [])) b ≡ false
 unfolding joins
-joins-mark h b = rw (last-is h apostrophe, apostrophe-none) (go (eqb b apostrophe))
-  where
-    go : (z : Bool) → (z && false) ≡ false
-    go true = refl
-    go false = refl
+joins-mark h b = rw (last-is h apostrophe, apostrophe-none) (and-false (eqb b apostrophe))
 
 -- what is held, finished
 module _ {A : Type 0} (byte : ℕ → List A) (word : List ℕ → List A) where

@@ -7,19 +7,19 @@ use mathlib.Core.Path.{_≡_, refl, sym, _∙_, ap}
 use native.Mathlib.Decide.{decLt}
 use native.Mathlib.Nat.{add-zero}
 use native.Mathlib.Omega.{arith}
-use borrow.Author.Tests.{lt-leb, le-leb, leb-true, eq-eqb, eqb-true}
+use borrow.Author.Tests.{lt-leb, le-leb, leb-true, eqb-true}
 use lib.Dec.{leb, eqb}
 use lib.ListN.{length, getD, take, drop, replicate, length-append, length-replicate, take-append-drop, getD-replicate, List·getD-append}
-use lib.Seq.{getD-append-add, take-at, take-suc, take-all, length-take-le}
+use lib.Seq.{getD-append-add, take-suc, take-all}
 use Rattle.base.specs.Limits.{wordLimit}
 use Rattle.base.specs.declared.Check.{Check}
 use Rattle.base.specs.declared.Check.the-variants.{Fine, Refused}
 use Rattle.base.proofs.Lists.{never, both}
 use Rattle.words.specs.Symbols.{letter, small, capital, apostrophe}
-use Rattle.words.specs.Words.{leading, judgeWord, wordByte}
+use Rattle.words.specs.Words.{judgeWord, wordByte}
 use Rattle.words.proofs.Laws.{small-high, range-high, word-byte}
 use Rattle.runs.specs.Text.{onward, Held, Holding, Gone, GoneMarked, unfinished, heldOf}
-use Rattle.runs.specs.Held.{lastOf, butLast, waits, joins, next, heldAfter, bytesOf}
+use Rattle.runs.specs.Held.{lastOf, butLast, waits, joins, next, heldAfter}
 use Rattle.runs.specs.Reached.{Reached, isFine, isWord, canBeHeld, isReached}
 use Rattle.runs.proofs.Laws.{apostrophe-none, last-is, but-last-is, joins-letter}
 use Rattle.runs.proofs.Kept.{held-is, after-append}

@@ -1,13 +1,13 @@
 -- The words of a text are those that the hyphenating call takes, and a text that is such a word is held whole.
-use Prim.Native.Nat.{ℕ, zero, suc, _+_, _-_, _≤_, _<_}
+use Prim.Native.Nat.{ℕ, suc, _+_, _-_, _≤_, _<_}
 use mathlib.Core.Bool.{Bool, true, false, cond, _&&_, _||_}
-use mathlib.Core.List.{List, [], _∷_, _++_, append-nil}
+use mathlib.Core.List.{List, [], _∷_}
 use mathlib.Core.Logic.{inl, inr}
 use mathlib.Core.Path.{_≡_, refl, sym, _∙_, ap}
 use native.Mathlib.Omega.{arith}
 use borrow.Author.Tests.{le-leb}
-use lib.Dec.{leb, eqb}
-use lib.ListN.{length, getD, take, drop, List·getD-eq-default}
+use lib.Dec.{eqb}
+use lib.ListN.{length, take, List·getD-eq-default}
 use lib.Seq.{take-length, drop-length}
 use Rattle.base.specs.Limits.{wordLimit}
 use Rattle.base.specs.declared.Check.the-variants.{Fine}
@@ -16,7 +16,7 @@ use Rattle.words.specs.Symbols.{letter, apostrophe}
 use Rattle.words.specs.Words.{startsLetter, isBetween, withApostrophes, leading, allFit, judgeBy, judgeWord, MayStand}
 use Rattle.words.proofs.Laws.{length-fine, judged-bytes, word-some, word-fits}
 use Rattle.words.proofs.Apostrophes.{all-lead, word-exactly}
-use Rattle.runs.specs.Text.{onward, Held, Holding, Gone, GoneMarked, unfinished, heldOf}
+use Rattle.runs.specs.Text.{onward, Holding, unfinished, heldOf}
 use Rattle.runs.specs.Held.{lastOf, heldAfter}
 use Rattle.runs.proofs.Laws.{zero-none}
 use Rattle.runs.proofs.Kept.{held-is}

@@ -1,13 +1,13 @@
 -- A state and its bytes: one law for each way through the code, and that each gives the other back.
-use Prim.Native.Nat.{ℕ, zero, suc, _+_, _*_, _-_, _/_, _%_, _≤_, _<_}
+use Prim.Native.Nat.{ℕ, _+_, _*_, _-_, _/_, _%_, _≤_, _<_}
 use mathlib.Core.Bool.{Bool, true, false, cond, _&&_}
 use mathlib.Core.List.{List, [], _∷_, _++_, append-nil}
-use mathlib.Core.Path.{_≡_, refl, sym, _∙_, ap}
+use mathlib.Core.Path.{_≡_, refl, _∙_, ap}
 use native.Mathlib.Omega.{arith}
 use borrow.Author.Tests.{eq-eqb, ne-eqb}
 use lib.Dec.{eqb}
 use lib.ListN.{length, getD, take, drop, replicate, length-append, length-drop, drop-of-length-le}
-use lib.Seq.{sets, sets-eq, paste, take-all, take-at, drop-at, length-sets}
+use lib.Seq.{sets, sets-eq, paste, take-all}
 use Rattle.base.specs.Limits.{heldLimit}
 use Rattle.states.specs.State.{newText}
 use Rattle.states.specs.Bytes.{headSize, stateSize, headBytes, stateBytes, totalOf, ofBytes}

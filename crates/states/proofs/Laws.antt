@@ -1,23 +1,22 @@
 -- One law for each way through the code.
 use Prim.Native.Nat.{ℕ, _+_, _-_, _≤_, _<_}
-use mathlib.Core.Bool.{Bool, true, false, cond, _&&_, _||_, not}
-use mathlib.Core.List.{List, [], _∷_}
+use mathlib.Core.Bool.{Bool, true, false, not}
+use mathlib.Core.List.{List}
 use mathlib.Core.Path.{_≡_, refl, sym, _∙_, ap}
 use native.Mathlib.Nat.{sub-zero}
-use native.Mathlib.Omega.{arith}
 use borrow.Author.Tests.{eq-eqb, ne-eqb, le-leb, lt-leb}
-use lib.Dec.{leb, eqb}
+use lib.Dec.{leb}
 use lib.ListN.{length, getD, take, drop, drop-of-length-le}
 use Rattle.base.specs.Limits.{wordLimit, runningText}
 use Rattle.base.specs.declared.Check.{Check}
 use Rattle.base.specs.declared.Check.the-variants.{Fine, Refused}
 use Rattle.base.specs.declared.Ground.{Ground}
-use Rattle.base.proofs.Lists.{cons-at, untrue}
+use Rattle.base.proofs.Lists.{cons-at}
 use Rattle.words.specs.Symbols.{apostrophe}
 use Rattle.words.specs.Words.{judgeWord}
-use Rattle.runs.specs.Text.{Holding, Gone, GoneMarked}
+use Rattle.runs.specs.Text.{Holding}
 use Rattle.runs.specs.Held.{waits}
-use Rattle.runs.specs.Reached.{isFine, isWord, canBeHeld, isReached}
+use Rattle.runs.specs.Reached.{isWord, canBeHeld, isReached}
 use Rattle.states.specs.State.{allZero, isGone, areLeft}
 
 -- a test that doesn't hold, as the code says it

@@ -5,17 +5,17 @@ use mathlib.Core.List.{List, [], _∷_, _++_}
 use mathlib.Core.Logic.{_↔_}
 use mathlib.Core.Path.{_≡_, refl, sym, _∙_, ap, ap₂}
 use native.Mathlib.Omega.{arith}
-use borrow.Author.Tests.{leb-true, le-leb, eqb-true, eqb-false}
+use borrow.Author.Tests.{leb-true, le-leb, eqb-true}
 use lib.Dec.{leb, eqb}
-use lib.ListN.{length, take, drop, replicate, length-append, length-drop, length-replicate, take-append-drop}
+use lib.ListN.{length, take, drop, replicate, length-append, length-drop, take-append-drop}
 use lib.Seq.{length-take-le, take-append-seam, drop-append-seam}
 use Rattle.base.specs.Limits.{heldLimit, runningText}
 use Rattle.base.proofs.Lists.{never, both}
 use Rattle.runs.specs.Text.{Held, Holding, Gone, GoneMarked}
 use Rattle.runs.specs.Held.{bytesOf, heldAfter}
-use Rattle.runs.specs.Reached.{Reached, canBeHeld, isReached}
+use Rattle.runs.specs.Reached.{isReached}
 use Rattle.runs.proofs.Reached.{reached-exactly}
-use Rattle.states.specs.State.{runOf, padded, stateOf, newText, heldBy, heldIn, Left, allZero, isGone, areLeft, isLeft, readState, Reads}
+use Rattle.states.specs.State.{runOf, padded, stateOf, newText, heldIn, Left, allZero, isGone, areLeft, isLeft, readState, Reads}
 use Rattle.states.specs.declared.TextState.{TextState}
 
 -- zeros

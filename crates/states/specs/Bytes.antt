@@ -1,7 +1,7 @@
 -- How a state stands in the bytes that a caller from C keeps: "byte 0 how many bytes are held, byte 1 the run .., bytes 2 to 5 the total, high
 -- byte first, bytes 6 and 7 zero, then the held bytes .., zeros behind; all zero is a new text".
 use Prim.Native.Nat.{ℕ, _+_, _*_, _/_, _%_}
-use mathlib.Core.Bool.{Bool, cond, _&&_}
+use mathlib.Core.Bool.{cond, _&&_}
 use mathlib.Core.List.{List, [], _∷_, _++_}
 use lib.Dec.{eqb}
 use lib.ListN.{getD, drop}

@@ -1,7 +1,7 @@
 -- Equal fields have equal bits, and what a running text's call leaves of its state's bytes.
 use Prim.Native.Nat.{ℕ}
 use mathlib.Core.List.{List}
-use mathlib.Core.Path.{_≡_, refl, sym, _∙_, ap, subst}
+use mathlib.Core.Path.{_≡_, _∙_, ap, subst}
 use lib.ListN.{length}
 use Rattle.base.specs.declared.Ground.{Ground}
 use Rattle.states.specs.Bytes.{stateBytes, ofBytes}

@@ -1,6 +1,6 @@
 use borrow.Author.Needs.{needs}
 use native.Mathlib.Omega.{arith}
-use mathlib.Core.Logic.{inl, inr}
+use mathlib.Core.Logic.{inr}
 use mathlib.Core.Path.{sym, _∙_, ap}
 use Rattle.words.specs.Symbols.{letter}
 use Rattle.runs.proofs.Laws.{apostrophe-none}

@@ -1,7 +1,7 @@
 use borrow.Author.Needs.{needs}
 use mathlib.Core.Logic.{inl}
 use mathlib.Core.Path.{sym, _∙_}
-use Rattle.flowing.proofs.Steps.{letter-passed, letter-held, letter-gone, word-finished, kept-within, room-some, at-within, can-finish}
+use Rattle.flowing.proofs.Steps.{letter-passed, letter-held, letter-gone, word-finished, room-some, at-within, can-finish}
 use Rattle.flowing.proofs.take_byte.Statement.{statement}
 use Rattle.flowing.proofs.take_byte.Tie as tie
 

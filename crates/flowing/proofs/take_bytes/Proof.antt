@@ -1,7 +1,6 @@
 -- What the bytes from i on give is still to come; their number falls.
 use borrow.Author.Needs.{needs}
 use Prim.Native.Nat.{_-_}
-use native.Mathlib.Omega.{arith}
 use lib.ListN.{length}
 use Rattle.flowing.proofs.Pieces.{Taking, start, ready-one, turn, done}
 use Rattle.flowing.proofs.take_bytes.Statement.{statement}

@@ -1,5 +1,4 @@
 use borrow.Author.Needs.{needs}
-use native.Mathlib.Omega.{arith}
 use Rattle.running.proofs.Laws.{starts-ready, piece-done}
 use Rattle.running.proofs.flow_piece.Statement.{statement}
 use Rattle.running.proofs.flow_piece.Tie as tie
