@@ -162,9 +162,9 @@ fn bits_1980(answer: Answer1980) -> u64
 fn written_bits(length: usize, looks: usize) -> u64
     ensures { λ r. ⌜ r ≡ writtenBits length looks ⌝ }
 {
-    let high = length as u64 % 16777216;
-    let low = looks as u64 % 4294967296;
-    high * 4294967296 + low
+    let size = length as u64 % 16777216;
+    let count = looks as u64 % 4294967296;
+    size * 4294967296 + count
 }
 
 // The bits of such a call's answer, and where it took something its state's bytes.
