@@ -66,7 +66,7 @@ unfoldable pub joined : List (List ℕ) → List ℕ
 joined [] = []
 joined (p ∷ ps) = p ++ joined ps
 
--- How many bytes are held.
+-- The bytes that are held.
 abbrev pub bytesOf : Held → List ℕ
 bytesOf (Holding kept) = kept
 bytesOf Gone = []
