@@ -7,7 +7,7 @@ use native.Mathlib.Nat.{add-zero, zero-add}
 use native.Mathlib.Omega.{arith}
 use borrow.Author.Tests.{le-ltb}
 use lib.ListN.{length, length-append}
-use Rattle.base.specs.Limits.{roomPerByte, runningText}
+use Rattle.base.specs.Limits.{heldLimit, roomPerByte, runningText}
 use Rattle.base.specs.Grounds.{refuseIf}
 use Rattle.base.specs.declared.Check.{Check}
 use Rattle.base.specs.declared.Check.the-variants.{Fine, Refused}
@@ -21,10 +21,10 @@ use Rattle.runs.proofs.Kept.{held-is, after-append}
 use Rattle.runs.proofs.Reached.{reached-exactly, after-reached}
 use Rattle.states.specs.State.{stateOf, newText, heldIn, Left, isLeft, readState}
 use Rattle.states.specs.declared.TextState.{TextState}
-use Rattle.states.proofs.Theorems.{held-in, made-left}
+use Rattle.states.proofs.Theorems.{held-in, made-left, read-left-state}
 use Rattle.flowing.specs.Output.{asRead, broken, uncounted, counted, sum, wholeText, wholeLooks, pieceText, pieceLooks, endText, endLooks}
 use Rattle.flowing.proofs.Steps.{sum-append}
-use Rattle.running.specs.Calls.{passesEnd, shortFor, judgeSetting, judgePiece, heldNow, totalNow, stateAfter, judgedPiece, pieceNext}
+use Rattle.running.specs.Calls.{passesEnd, shortFor, judgeSetting, judgePiece, heldNow, totalNow, stateAfter, judgedPiece, pieceNext, judgedEnd, endNext}
 use Rattle.running.specs.Sessions.{Call, Course, answeredFirst, session}
 use Rattle.running.proofs.Laws.{past-bound}
 
@@ -169,14 +169,18 @@ module _ (left right : ℕ) (customer house table : List ℕ) where
         ∙ total-same (heldAfter (Holding []) whole) (0 + length whole) (follows .short) (follows .reached)
         ∙ zero-add (length whole)
 
-  -- Every answered piece leaves a state that a text leaves, whatever state it was given.
-  pub answered-left : (state : TextState) → Left (readState state) → (piece : List ℕ) (room : ℕ) → judgedPiece state left right customer house table piece room ≡ Fine
+  -- Every answered call leaves a state that a text leaves, whatever state it was given: a piece, and the end, which leaves a new text's.
+  pub answered-left : (state : TextState) → length (state .held) ≡ heldLimit → (piece : List ℕ) (room : ℕ) → judgedPiece state left right customer house table piece room ≡ Fine
       → isLeft (pieceNext state left right customer house table piece room) ≡ true
-  answered-left state l piece room e =
+  answered-left state wide piece room e =
+      let l = read-left-state state wide in
       let h : heldNow state ≡ l .held = ap heldIn (l .is) ∙ held-in (l .held) (totalNow state) in
       let r : isReached (heldNow state) (totalNow state) ≡ true = rw h (reached-exactly (l .held) (totalNow state) .1 (l .reached)) in
       rw e
       (made-left (heldAfter (heldNow state) piece) (totalNow state + length piece) (answered-short state piece room e) (after-reached (heldNow state) (totalNow state) piece r))
+
+  pub ended-left : (state : TextState) (room : ℕ) → judgedEnd state left right customer house table room ≡ Fine → isLeft (endNext state left right customer house table room) ≡ true
+  ended-left state room e = rw e (made-left (Holding []) 0 (omega arith) new-reached)
 
   -- Each such state is left by a call: a new text, one piece, and three bytes of room for each of its bytes, with any margins, lists and
   -- table that aren't refused.
