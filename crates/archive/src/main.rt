@@ -6,7 +6,7 @@ ghost use Rattle.archive.specs.State.{Holds};
 
 // How far the words have come: bytes of the present line that are held, bytes of lines not yet written, and the sums. `stopped`
 // says that nothing more is to be read, `unread` that reading failed, and `lost` that a line could not be written.
-#[derive(Drop)]
+#[derive(Clone, Copy)]
 struct State {
     held: usize,
     at: usize,
@@ -19,7 +19,7 @@ struct State {
 }
 
 // Where the next line goes, and whether a line is lost.
-#[derive(Drop)]
+#[derive(Clone, Copy)]
 struct Space {
     at: usize,
     lost: bool,

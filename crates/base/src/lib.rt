@@ -56,7 +56,7 @@ pub const CUSTOMER_LIST: usize = 1;
 pub const HOUSE_LIST: usize = 2;
 
 // Why a call refuses, with the list and the offset where document 01 tells a place.
-#[derive(Drop)]
+#[derive(Clone, Copy)]
 pub enum Ground {
     Margin,
     WordEmpty,
@@ -76,7 +76,7 @@ pub enum Ground {
 }
 
 // What a judgement says: nothing against it, or why not.
-#[derive(Drop)]
+#[derive(Clone, Copy)]
 pub enum Check {
     Fine,
     Refused(Ground),

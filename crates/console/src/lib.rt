@@ -4,7 +4,7 @@ ghost use Rattle.std.specs.Prelude.{◌≤◌, length};
 use base::Ground;
 
 // What came of reading a file: whether it could be opened and read, and how many bytes of it are in the buffer.
-#[derive(Drop)]
+#[derive(Clone, Copy)]
 pub struct Read {
     pub done: bool,
     pub size: usize,

@@ -7,7 +7,7 @@ ghost use Rattle.fit.specs.Entries as fit;
 ghost use Rattle.entering.specs.Post.{as_entries, count_of};
 
 // How many entries there are now, and the number of the one made or found last; or that there are too many.
-#[derive(Drop)]
+#[derive(Clone, Copy)]
 pub enum Entered {
     Made { count: u16, last: u16 },
     TooMany,

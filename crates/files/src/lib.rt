@@ -65,7 +65,7 @@ fn fill(file: i32, bytes: &[u8], old: Status) -> bool {
 }
 
 // A new file and its name's size.
-#[derive(Drop)]
+#[derive(Clone, Copy)]
 struct Made {
     file: i32,
     size: usize,
@@ -133,7 +133,7 @@ fn read_link(path: &[u8], text: &mut [u8]) -> usize
 }
 
 // A path in a room, and whether a link was followed to it.
-#[derive(Drop)]
+#[derive(Clone, Copy)]
 struct Followed {
     size: usize,
     linked: bool,

@@ -6,7 +6,7 @@ use libc::types::{stat, timespec};
 
 // Whether a file was found under the name, its kind and mode, whose it is, and which file it is.
 // Where none was found, every other field is 0.
-#[derive(Drop)]
+#[derive(Clone, Copy)]
 pub struct Status {
     pub found: bool,
     pub mode: u32,
@@ -17,7 +17,7 @@ pub struct Status {
 }
 
 // What C's stat answered, and what it left in the struct that it was lent.
-#[derive(Drop)]
+#[derive(Clone, Copy)]
 struct Asked {
     answer: i32,
     stat: stat,

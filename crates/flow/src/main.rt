@@ -21,7 +21,7 @@ const ROOM: usize = base::ROOM_PER_BYTE * (PIECE + base::HELD_LIMIT);
 
 // How far the text has come: its state, and whether the output stands at the beginning of a line. `stopped` says that nothing more is to be
 // read, and `cut` that the text doesn't come to its end: it was refused, or could not be read or written.
-#[derive(Drop)]
+#[derive(Clone, Copy)]
 struct Progress {
     state: TextState,
     fresh: bool,
@@ -30,7 +30,7 @@ struct Progress {
 }
 
 // What came of a text that was to be written: whether the output stands at the beginning of a line then, and whether it is lost.
-#[derive(Drop)]
+#[derive(Clone, Copy)]
 struct Out {
     fresh: bool,
     lost: bool,

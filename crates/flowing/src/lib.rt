@@ -12,7 +12,7 @@ ghost use Rattle.flowing.specs.Post.{Shows, Holds, Goes, Finishes, Ready, Steps,
 use hyphenation::Answer;
 
 // How far a piece has come: bytes that are held, the run, where the output goes on, and the looks so far.
-#[derive(Drop)]
+#[derive(Clone, Copy)]
 pub struct Flow {
     pub size: usize,
     pub run: u8,
@@ -21,7 +21,7 @@ pub struct Flow {
 }
 
 // Where the output of a word ends, and how many cells were looked at for it.
-#[derive(Drop)]
+#[derive(Clone, Copy)]
 pub struct Shown {
     pub end: usize,
     pub looks: usize,

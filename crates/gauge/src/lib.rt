@@ -10,7 +10,7 @@ ghost use Rattle.gauge.specs.Fit.{given, fit_values, fit_grounds, fit_said, fit_
 use base::{Check, Ground};
 
 // The widths of a hyphen and of a line, in millimetres. The letters' widths stand beside it.
-#[derive(Drop)]
+#[derive(Clone, Copy)]
 pub struct Gauge {
     pub hyphen: f64,
     pub line: f64,
@@ -18,7 +18,7 @@ pub struct Gauge {
 
 // What the call answers: the whole word fits, the last break that fits with its hyphen, told by the letters before it, none fits; or why
 // it refuses.
-#[derive(Drop)]
+#[derive(Clone, Copy)]
 pub enum Fitting {
     Whole,
     Break(usize),

@@ -15,7 +15,7 @@ use base::{Check, Ground};
 use lookup::Located;
 
 // What a call answers: how many bytes of the room it set, with the count of looks, or why it refuses.
-#[derive(Drop)]
+#[derive(Clone, Copy)]
 pub enum Answer {
     Found { marks: usize, looks: usize },
     Refused(Ground),

@@ -7,7 +7,7 @@ ghost use Rattle.lines.specs.Order.{before};
 ghost use Rattle.lines.specs.Ends.{end_if};
 
 // Where a line ends that is good as it stands, or that it is bad.
-#[derive(Drop)]
+#[derive(Clone, Copy)]
 pub enum End {
     At(usize),
     Bad,

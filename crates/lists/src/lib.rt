@@ -9,14 +9,14 @@ use base::{Check, Ground};
 use lines::End;
 
 // What the lines of a list are.
-#[derive(Drop)]
+#[derive(Clone, Copy)]
 pub enum Form {
     Patterns,
     Exceptions,
 }
 
 // What there is to say of a list's lines.
-#[derive(Drop)]
+#[derive(Clone, Copy)]
 pub enum Lines {
     Good,
     BadAt(usize),

@@ -11,14 +11,14 @@ ghost use Rattle.lookup.specs.Lookup.{lookup_grounds, line_said, lookup_said, lo
 use base::Check;
 
 // Where a word's line stands in one list, without its line feed.
-#[derive(Drop)]
+#[derive(Clone, Copy)]
 pub enum ListLine {
     At { start: usize, end: usize },
     Nothing,
 }
 
 // Where a word's line stands in the two lists.
-#[derive(Drop)]
+#[derive(Clone, Copy)]
 pub enum Located {
     Customer { start: usize, end: usize },
     House { start: usize, end: usize },

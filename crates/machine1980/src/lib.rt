@@ -16,7 +16,7 @@ use base::{Check, Ground};
 
 // What the call answers: how many breaks it put into the room and how many instructions were executed; that one more instruction is
 // needed than there is budget for; or why it refuses.
-#[derive(Drop)]
+#[derive(Clone, Copy)]
 pub enum Answer1980 {
     Found { breaks: usize, executed: usize },
     RanOut,
@@ -29,7 +29,7 @@ pub const ANSWERED_OUTCOME: usize = 0;
 pub const RAN_OUT_OUTCOME: usize = 1;
 
 // What the machines come to on a sheet.
-#[derive(Drop)]
+#[derive(Clone, Copy)]
 pub enum Marks {
     Out,
     Made { finale: usize, executed: usize },

@@ -9,7 +9,7 @@ ghost use Rattle.middle1980.specs.Joined.{joined, Joins, Placed};
 use sheet1980::{clear_at, code_at, is_vowel};
 use tables1980::{has_bit, pair_word};
 
-#[derive(Drop)]
+#[derive(Clone, Copy)]
 pub enum Label {
     Marki,
     Phase4c,
@@ -21,7 +21,7 @@ pub enum Label {
 }
 
 // Where to go: to a label with i, b and c, or to phase 5.
-#[derive(Drop)]
+#[derive(Clone, Copy)]
 pub enum Step {
     Goto {
         label: Label,

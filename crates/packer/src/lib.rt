@@ -18,21 +18,21 @@ use base::{Check, Ground};
 use entering::Entered;
 
 // What the packer answers: the table's length, or why it refuses.
-#[derive(Drop)]
+#[derive(Clone, Copy)]
 pub enum Packing {
     Done(usize),
     Refused(Ground),
 }
 
 // How the outputs came out: how many entries there are, or that there are too many.
-#[derive(Drop)]
+#[derive(Clone, Copy)]
 pub enum Outcome {
     Out(u16),
     Over,
 }
 
 // How a layout came out: how many cells and entries it has, or that it has too many.
-#[derive(Drop)]
+#[derive(Clone, Copy)]
 pub enum Filled {
     Laid { cells: u16, entries: u16 },
     Full,

@@ -84,7 +84,7 @@ pub fn digit_value(b: u8) -> u8
 }
 
 // Where two lines part: how many leading symbols they share, and the first one's next symbol, 0 where it has none.
-#[derive(Drop)]
+#[derive(Clone, Copy)]
 pub struct Parting {
     pub shared: usize,
     pub symbol: u8,

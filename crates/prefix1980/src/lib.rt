@@ -11,7 +11,7 @@ use sheet1980::{clear_at, code_at};
 use tables1980::{has_bit, prefix_table, prefix_word};
 
 // An instruction word taken apart: operand, truex and falsex, as far as its opcode uses them; a table's whole word.
-#[derive(Drop)]
+#[derive(Clone, Copy)]
 pub enum Instruction {
     Scan { t: u16, truex: u16, falsex: u16 },
     Repeat { t: u16 },
@@ -24,7 +24,7 @@ pub enum Instruction {
 }
 
 // Where the machine goes: on to a row, or out of it to a label of phase 4 or to phase 5.
-#[derive(Drop)]
+#[derive(Clone, Copy)]
 pub enum Turn {
     Row {
         i: usize,
@@ -36,7 +36,7 @@ pub enum Turn {
 }
 
 // What it comes to: the budget is used up and one more instruction needed; or what is left of it, and where to go on.
-#[derive(Drop)]
+#[derive(Clone, Copy)]
 pub enum Ran {
     Out,
     Stopped { left: usize, step: Step },

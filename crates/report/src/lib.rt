@@ -12,7 +12,7 @@ use hyphenation::Answer;
 pub const LINE_LIMIT: usize = 2 * base::WORD_LIMIT + 2;
 
 // What came of a word: where its line ends, how many cells were looked at, and whether it was refused.
-#[derive(Drop)]
+#[derive(Clone, Copy)]
 pub struct Line {
     pub end: usize,
     pub looks: usize,

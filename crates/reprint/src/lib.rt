@@ -8,7 +8,7 @@ use machine1980::Answer1980;
 pub const LINE_LIMIT_1980: usize = 2 * base::WORD_LIMIT_1980 + 2;
 
 // What came of a word: where its line ends, how many instructions were executed, and whether it was refused.
-#[derive(Drop)]
+#[derive(Clone, Copy)]
 pub struct Line {
     pub end: usize,
     pub executed: usize,

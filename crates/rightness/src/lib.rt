@@ -1,7 +1,7 @@
 // When a table is right for a list, as document 01 says it and as the checker computes it: what the checker keeps on its way.
 
 // Where a path ends: its base, and whether it is a leaf, from which nothing goes on.
-#[derive(Drop)]
+#[derive(Clone, Copy)]
 pub struct Node {
     pub leaf: bool,
     pub base: u16,
@@ -9,7 +9,7 @@ pub struct Node {
 
 // What a pattern has in common with its neighbours: how many symbols with the pattern above, with which symbol that one goes on
 // behind them (0 where it ends there), and how many symbols with the pattern below.
-#[derive(Drop)]
+#[derive(Clone, Copy)]
 pub struct Beside {
     pub known: usize,
     pub low: u8,

@@ -11,14 +11,14 @@ use flowing::Flow;
 use states::TextState;
 
 // What a call answers: the length of the text that it wrote, with the count of the words that it finished, or why it refuses.
-#[derive(Drop)]
+#[derive(Clone, Copy)]
 pub enum TextAnswer {
     Written { length: usize, looks: usize },
     Refused(Ground),
 }
 
 // An answer, and the state for the next call.
-#[derive(Drop)]
+#[derive(Clone, Copy)]
 pub struct Taken {
     pub state: TextState,
     pub answer: TextAnswer,

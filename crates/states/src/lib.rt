@@ -21,7 +21,7 @@ pub const HEAD_SIZE: usize = 8;
 pub const STATE_SIZE: usize = HEAD_SIZE + base::HELD_LIMIT;
 
 // The bytes held, how many they are, the run, and how many bytes the text has so far. Bytes behind those held are 0.
-#[derive(Drop)]
+#[derive(Clone, Copy)]
 pub struct TextState {
     pub held: [u8; base::HELD_LIMIT],
     pub size: u8,

@@ -11,7 +11,7 @@ use sheet1980::{clear_at, code_at};
 use tables1980::{ROWS, has_bit, suffix_table, suffix_word};
 
 // An instruction word taken apart: operand, truex and falsex, as far as its opcode uses them.
-#[derive(Drop)]
+#[derive(Clone, Copy)]
 pub enum Instruction {
     Scan { t: u16, truex: u16, falsex: u16 },
     Double { truex: u16, falsex: u16 },
@@ -27,7 +27,7 @@ pub enum Instruction {
 }
 
 // Where the machine goes: on to a row, or to phase 3.
-#[derive(Drop)]
+#[derive(Clone, Copy)]
 pub enum Turn {
     Row {
         i: usize,
@@ -41,7 +41,7 @@ pub enum Turn {
 }
 
 // What it comes to: the budget is used up and one more instruction needed; or what is left of it, and finale.
-#[derive(Drop)]
+#[derive(Clone, Copy)]
 pub enum Ran {
     Out,
     Stopped { left: usize, finale: usize },

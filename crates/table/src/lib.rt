@@ -30,14 +30,14 @@ pub const ENTRY_ROOM: usize = ENTRY_SIZE * base::ENTRY_LIMIT;
 pub const ROOT_BASE: u16 = 0;
 
 // What a look at a cell finds.
-#[derive(Drop)]
+#[derive(Clone, Copy)]
 pub enum Look {
     Hit { link: u16, output: u16 },
     Miss,
 }
 
 // What stands under an entry's number.
-#[derive(Drop)]
+#[derive(Clone, Copy)]
 pub enum Entry {
     Has { distance: u8, level: u8, next: u16 },
     Stop,
