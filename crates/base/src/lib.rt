@@ -1,4 +1,6 @@
 // What every other crate shares: the limits, the grounds of a refusal, and their numbers.
+#![tactic(auto)]
+
 ghost use Rattle.std.specs.Prelude.{◌≡◌};
 ghost use Rattle.base.specs.Grounds.{told};
 

@@ -54,6 +54,8 @@ judged_width (fin false m e) r = (λ s. absurd (true≢false (sym s)), omega (ar
 
 -- A width is finite, and so is what isn't refused.
 finite_width : (x : Float) → Width x → finite x ≡ true
+finite_width nan w = elim w [ ]
+finite_width (inf _) w = elim w [ ]
 finite_width (fin s m e) w = refl
 
 pub width_finite : (x : Float) → bad_width x ≡ false → finite x ≡ true
@@ -101,6 +103,10 @@ at_most a b t = go (ltb a b) refl t
 -- of two values in order, any fractions that they equal are in order
 le_fractions : (x y : Float) (a c b d : ℕ) → HasValue x false a c → HasValue y false b d → T (le x y) → a * d ≤ b * c
 unfolding le
+le_fractions nan y a c b d p q t = elim p [ ]
+le_fractions (inf _) y a c b d p q t = elim p [ ]
+le_fractions (fin false m e) nan a c b d p q t = elim q [ ]
+le_fractions (fin false m e) (inf _) a c b d p q t = elim q [ ]
 le_fractions (fin true m e) y a c b d p q t = absurd (true≢false p.0)
 le_fractions (fin false m e) (fin true n g) a c b d p q t = absurd (true≢false q.0)
 le_fractions (fin false m e) (fin false n g) a c b d p q t =
@@ -116,6 +122,8 @@ Upper (fin s m e) = s ≡ false
 
 -- rounding to plus gives such a value
 value_upper : (x : Float) (a c : ℕ) → HasValue x false a c → Upper x
+value_upper nan a c h = elim h [ ]
+value_upper (inf _) a c h = elim h [ ]
 value_upper (fin s m e) a c h = h.0
 
 units_upper : (f : Format) (q k : ℕ) → Upper (units f false q k)
@@ -132,6 +140,9 @@ round_upper f a c = subst (λ (z : Float). Upper z) (sym (round_is f false a c))
 -- what is at most a finite value is finite
 under : (z w : Float) (a c : ℕ) → Upper z → HasValue w false a c → T (le z w) → Plain z
 unfolding le
+under nan w a c u v t = elim u [ ]
+under (inf false) nan a c u v t = elim v [ ]
+under (inf false) (inf _) a c u v t = elim v [ ]
 under (inf true) w a c u v t = absurd (true≢false u)
 under (inf false) (fin s n d) a c u v t = absurd t
 under (fin s m e) w a c u v t = (u, refl)
@@ -161,6 +172,8 @@ below_top q u l p d t L h e = lt_of_mul-lt-mul_right d (omega (arith, mul-lt-mul
 -- A value that the format holds, rounded, is that value.
 round_held : (f : Format) (x : Float) → Plain x → T (fits f x) → HasValue (round f false (num x) (den x)) false (num x) (den x)
 unfolding fits
+round_held f nan p t = elim p [ ]
+round_held f (inf _) p t = elim p [ ]
 round_held f (fin s zero e) p t = round_exact f false (0 * up e) (down e) 0 0 (down_pos e) (pow_pos (prec f)) (pow_pos (low f + suc (emax f))) (simp zero-mul)
 round_held f (fin s (suc m) e) p t =
     let a = eqb (suc m % 2) 1 in
@@ -191,12 +204,18 @@ opened f m e n d s = refl
 
 -- A width added is the sum of the fractions, rounded once.
 add_is : (f : Format) (x y : Float) → Plain x → Width y → add f x y ≡ round f false (num x * den y + num y * den x) (den x * den y)
+add_is f nan y p w = elim p [ ]
+add_is f (inf _) y p w = elim p [ ]
+add_is f (fin false m e) nan p w = elim w [ ]
+add_is f (fin false m e) (inf _) p w = elim w [ ]
 add_is f (fin true m e) y p w = absurd (true≢false p.0)
 add_is f (fin false m e) (fin true n d) p w = opened f m e n d true ∙ sum_minus f _ _ _ (rw (w.0 refl) (simp zero-mul))
 add_is f (fin false m e) (fin false n d) p w = opened f m e n d false ∙ sum_plus f _ _ _
 
 -- a width is at most 1,000, as a fraction
 width_most : (y : Float) → Width y → num y ≤ 1000 * den y
+width_most nan w = elim w [ ]
+width_most (inf _) w = elim w [ ]
 width_most (fin s m e) w = w.1
 
 -- What a sum is: finite with the sign of plus, held by the format, at most k.
@@ -212,6 +231,8 @@ zero_sum f k = record { plain = (refl, refl); held = tt; within = zero-le }
 
 -- a sum is finite
 plain_finite : (x : Float) → Plain x → finite x ≡ true
+plain_finite nan p = elim p [ ]
+plain_finite (inf _) p = elim p [ ]
 plain_finite (fin s m e) p = refl
 
 module _ {f : Format} {k : ℕ} {x : Float} (s : Sum f k x) where
@@ -266,6 +287,10 @@ add_mono f x x' y p p' w h =
 -- whether a line is below x, as a test of fractions
 line_test : (l x : Float) → Width l → Plain x → lt l x ≡ ltb (num l * den x) (num x * den l)
 unfolding lt
+line_test l nan w p = elim p [ ]
+line_test l (inf _) w p = elim p [ ]
+line_test nan (fin false m e) w p = elim w [ ]
+line_test (inf _) (fin false m e) w p = elim w [ ]
 line_test l (fin true m e) w p = absurd (true≢false p.0)
 line_test (fin true n d) (fin false m e) w p = rw (w.0 refl) (simp (zero-mul, zero-add))
 line_test (fin false n d) (fin false m e) w p = refl

@@ -147,15 +147,15 @@ outside : (x : Float) → (bad_width x ≡ true) ↔ Outside x
 unfolding bad_width is_nan
 outside x = (to (lt x zero_width) refl (lt width_limit x) refl, back)
   where
-    is_nan : (x : Float) → is_nan x ≡ true → x ≡ nan
-    is_nan nan e = refl
-    is_nan (inf s) e = never e
-    is_nan (fin s m e) n = never n
+    is_nan_lem : (x : Float) → is_nan x ≡ true → x ≡ nan
+    is_nan_lem nan e = refl
+    is_nan_lem (inf s) e = never e
+    is_nan_lem (fin s m e) n = never n
 
     to : (a : Bool) → lt x zero_width ≡ a → (b : Bool) → lt width_limit x ≡ b → (a || (b || is_nan x)) ≡ true → Outside x
     to true e b f h = inl e
     to false e true f h = inr (inl f)
-    to false e false f h = inr (inr (is_nan x h))
+    to false e false f h = inr (inr (is_nan_lem x h))
 
     back : Outside x → (lt x zero_width || (lt width_limit x || is_nan x)) ≡ true
     back (inl e) = rw e

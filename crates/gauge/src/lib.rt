@@ -1,4 +1,6 @@
 // Which break fits the strip: a word's letters and its hyphen measured against a line. CR 2.
+#![tactic(auto)]
+
 ghost use Rattle.std.specs.Prelude.{◌≡◌, true, not, ◌&&◌, cond, [], ◌≤◌, eqb, length};
 ghost use Rattle.base.specs.Limits.{room_size, word_limit, width_count};
 ghost use Rattle.base.specs.Grounds.{Finds, says, first_of};

@@ -1,4 +1,6 @@
 // Single lines of a text list: where one ends, whether it is good as it stands, and whether it ascends from the one above.
+#![tactic(auto)]
+
 ghost use Rattle.std.specs.Prelude.{◌≡◌, ◌||◌, ◌+◌, ◌≤◌, length, drop};
 ghost use Rattle.words.specs.Symbols.{symbols_of, line_feed};
 ghost use Rattle.lines.specs.Apostrophes.{apostrophes_fit, fit_if_any};

@@ -1,4 +1,6 @@
 // Whole text lists: the first bad line, and the grounds 8, 7 and 6.
+#![tactic(auto)]
+
 ghost use Rattle.std.specs.Prelude.{[], ◌≡◌, ◌+◌, drop};
 ghost use Rattle.base.specs.Grounds.{Finds, says, first_of};
 ghost use Rattle.lines.specs.Lines.{line_length, first_line};

@@ -1,4 +1,6 @@
 // The lookup of a word's exception line.
+#![tactic(auto)]
+
 ghost use Rattle.std.specs.Prelude.{◌+◌, ◌*◌, not, ◌&&◌, cond, [], ◌≡◌, eqb, leb, length, get_or, drop};
 ghost use Rattle.std.specs.Int.Bits.{bit_or};
 ghost use Rattle.base.specs.Grounds.{Finds, says, first_of};

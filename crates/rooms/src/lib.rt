@@ -1,5 +1,7 @@
 // What is done to a lent room, whatever it is for: its size is judged, it is cleared or filled, its marks are counted. The width is how many
 // bytes of the room are meant.
+#![tactic(auto)]
+
 ghost use Rattle.std.specs.Prelude.{◌≡◌, ◌+◌, ◌≤◌, ◌<◌, length, take};
 ghost use Rattle.std.proofs.Math.Seq.{paste};
 ghost use Rattle.rooms.specs.Rooms.{is_short, filled, nonzero};

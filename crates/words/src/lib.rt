@@ -1,4 +1,6 @@
 // Letters, symbols and the judgement of a word.
+#![tactic(auto)]
+
 ghost use Rattle.std.specs.Prelude.{◌≡◌, true, [], ◌+◌, ◌<◌, length, get_or, drop};
 ghost use Rattle.base.specs.Grounds.{Finds, says, first_of};
 ghost use Rattle.words.specs.Symbols.{small, capital, letter, lower, digit, symbol_of};

@@ -1,4 +1,6 @@
 // Numbers and words put into lent memory, one part behind the other.
+#![tactic(auto)]
+
 ghost use Rattle.std.specs.Prelude.{[], ◌∷◌, ◌+◌, ◌≤◌, length};
 ghost use Rattle.writing.specs.Put.{Put};
 ghost use Rattle.writing.specs.Writing.{digits, decimal, field, counted, letter_with, hyphenated};

@@ -1,0 +1,55 @@
+use borrow.Author.Rules.{rules}
+use Prim.Native.Nat.{◌-◌}
+use native.Mathlib.Omega.{arith}
+use lib.Ieee.{of_bits}
+use Rattle.gauge.proofs.Laws.{some_letter, letter_at, measured_letter, gap_at, all_letters, measured_none, measured_more, found_whole, found_none, found_break}
+use Rattle.gauge.proofs.find_fit.Goals as goal
+
+pub overflow_sub-last : goal.overflow_sub-last
+overflow_sub-last c = some_letter c.args.widths.now c.args.word.now c.args.room.now c.requires
+
+pub loop-i-init : goal.loop-i-init
+unfolding of_bits
+loop-i-init c = (search rules, measured_none _ _ _ _)
+
+pub letter_width-width-requires : goal.letter_width-width-requires
+letter_width-width-requires c =
+    measured_letter c.args.widths.now c.args.word.now c.args.room.now c.requires _ c.loop-i.invariant.0
+
+pub bounds-room-i : goal.bounds-room-i
+bounds-room-i c =
+    omega (arith, gap_at c.args.widths.now c.args.word.now c.args.room.now c.requires _ c.loop-i-test.true)
+
+pub loop-i-preserved : goal.loop-i-preserved
+loop-i-preserved c =
+    let l = c.loop-i in
+    (search rules, measured_more _ _ _ _ l.invariant.1 c.letter_width-width.ensures c.fits_in.ensures c.last_break-found.ensures)
+
+pub bounds-word-i : goal.bounds-word-i
+bounds-word-i c =
+    letter_at c.args.widths.now c.args.word.now c.args.room.now c.requires _ c.loop-i.invariant.0
+
+pub letter_width-requires : goal.letter_width-requires
+letter_width-requires c =
+    measured_letter c.args.widths.now c.args.word.now c.args.room.now c.requires _ c.loop-i.invariant.0
+
+pub returns-then-fits_in : goal.returns-then-fits_in
+returns-then-fits_in c =
+    let l = c.loop-i in
+    found_whole _ _ _ _ l.invariant.1 c.letter_width.ensures
+    (all_letters c.args.widths.now c.args.word.now c.args.room.now c.requires _ l.invariant.0 c.loop-i-test.false)
+    c.fits_in-2.ensures c.if-fits_in.true
+
+pub returns-then-found-eq0 : goal.returns-then-found-eq0
+returns-then-found-eq0 c =
+    let l = c.loop-i in
+    found_none _ _ _ _ l.invariant.1 c.letter_width.ensures
+    (all_letters c.args.widths.now c.args.word.now c.args.room.now c.requires _ l.invariant.0 c.loop-i-test.false)
+    c.fits_in-2.ensures c.if-fits_in.false c.if-found-eq0.true
+
+pub returns : goal.returns
+returns c =
+    let l = c.loop-i in
+    found_break _ _ _ _ l.invariant.1 c.letter_width.ensures
+    (all_letters c.args.widths.now c.args.word.now c.args.room.now c.requires _ l.invariant.0 c.loop-i-test.false)
+    c.fits_in-2.ensures c.if-fits_in.false c.if-found-eq0.false

@@ -1,0 +1,15 @@
+-- Word and line agree so far, so they are the same where their rests are; what is left of the line falls.
+use Prim.Native.Nat.{◌-◌}
+use mathlib.Core.Path.{◌≡◌}
+use lib.ListN.{length, drop}
+use Rattle.words.specs.Symbols.{symbols_of}
+use Rattle.words.specs.Words.{word_symbols}
+use Rattle.base.specs.Tests.{same_list}
+use Rattle.lookup.proofs.Compare as law
+use Rattle.lookup.proofs.same_symbols.Given as goal
+
+abbrev pub invariant-loop-j : goal.invariant-loop-j
+invariant-loop-j l = same_list (word_symbols (drop l.from l.word)) (symbols_of (drop l.at l.line)) ≡ law.same_from l.word l.i l.line l.j
+
+abbrev pub decreases-loop-j : goal.decreases-loop-j
+decreases-loop-j l = length l.line - l.j
