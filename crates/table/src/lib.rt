@@ -1,4 +1,6 @@
 // The packed table on bytes: ground 9, the parts of a table, one look at a cell, one entry.
+#![tactic(auto)]
+
 ghost use Rattle.std.specs.Prelude.{[], ◌++◌, ◌≡◌, ◌+◌, ◌*◌, ◌≤◌, ◌<◌, length, get_or, drop};
 ghost use Rattle.base.specs.Grounds.{Finds, says, first_of};
 ghost use Rattle.table.specs.Records.{head_bytes};

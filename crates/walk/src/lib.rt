@@ -1,4 +1,6 @@
 // The walks over a word's row: levels raised in a room, and the count of looks.
+#![tactic(auto)]
+
 ghost use Rattle.std.specs.Prelude.{◌≡◌, ◌+◌, ◌≤◌, max, length, take, replicate};
 ghost use Rattle.base.specs.Limits.{word_limit, row_limit, room_size, pattern_limit};
 ghost use Rattle.base.specs.declared.Check.{Check};
