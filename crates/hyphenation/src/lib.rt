@@ -1,4 +1,6 @@
 // The levels call and the hyphenating call.
+#![tactic(auto)]
+
 ghost use Rattle.std.specs.Prelude.{[], ◌≡◌, ◌≤◌, length, get_or};
 ghost use Rattle.base.specs.Limits.{room_size, word_limit};
 ghost use Rattle.base.specs.Grounds.{Finds, says, first_of};

@@ -1,1 +1,2 @@
 // Definitions and theorems alone: the words of a running text.
+#![tactic(auto)]

@@ -1,4 +1,6 @@
 // The state of a running text: what is kept of it between two calls, and which states the calls could have left.
+#![tactic(auto)]
+
 ghost use Rattle.std.specs.Prelude.{[], ◌≡◌, ◌≤◌, length, drop};
 ghost use Rattle.base.specs.Limits.{held_limit};
 ghost use Rattle.runs.specs.Text.{Holding};

@@ -1,0 +1,13 @@
+use Rattle.base.proofs.Grounds.{judged_by}
+use Rattle.hyphenation.proofs.Calls.{refused, word_alone_sizes, breaks_found}
+use Rattle.hyphenation.proofs.Order.{word_alone_ordered, promised}
+use Rattle.hyphenation.proofs.hyphenate_word.Goals as goal
+
+pub returns-in-Refused : goal.returns-in-Refused
+returns-in-Refused c = promised (word_alone_ordered _ _) (refused _ _ _ (judged_by (word_alone_ordered _ _) c.judge_word_alone-judged.ensures) c.in-Refused.is)
+
+pub find_breaks-requires : goal.find_breaks-requires
+find_breaks-requires c = word_alone_sizes _ _ (judged_by (word_alone_ordered _ _) c.judge_word_alone-judged.ensures) c.in_default.is
+
+pub returns : goal.returns
+returns c = promised (word_alone_ordered _ _) (breaks_found _ _ _ _ _ _ _ (judged_by (word_alone_ordered _ _) c.judge_word_alone-judged.ensures) c.in_default.is c.cells_of-cells.ensures.bytes c.entries_of-entries.ensures.bytes c.find_breaks.ensures)
