@@ -1,4 +1,6 @@
 // A running text taken byte by byte: words are held until they are finished, and go out with their breaks.
+#![tactic(auto)]
+
 ghost use Rattle.std.specs.Prelude.{true, [], ◌∷◌, ◌++◌, ◌≡◌, ◌+◌, ◌*◌, ◌≤◌, ◌<◌, length, take};
 ghost use Rattle.base.specs.Limits.{word_limit, room_per_byte};
 ghost use Rattle.base.specs.declared.Check.{Check};

@@ -1,4 +1,6 @@
 // One pattern line by numbers: its symbols, its levels, and what two lines share.
+#![tactic(auto)]
+
 ghost use Rattle.std.specs.Prelude.{◌≡◌, ◌-◌, map, length, drop, get_or, set};
 ghost use Rattle.lines.specs.Lines.{cut};
 ghost use Rattle.words.specs.Symbols.{symbols_of};

@@ -1,4 +1,5 @@
 // When a table is right for a list, as document 01 says it and as the checker computes it: what the checker keeps on its way.
+#![tactic(auto)]
 
 // Where a path ends: its base, and whether it is a leaf, from which nothing goes on.
 #[derive(Clone, Copy)]

@@ -1,4 +1,6 @@
 // Running text in pieces: the call that takes a piece, and the call that ends the text.
+#![tactic(auto)]
+
 ghost use Rattle.std.specs.Prelude.{[], ◌≡◌, true, length, take, ◌+◌, ◌*◌, ◌≤◌};
 ghost use Rattle.base.specs.Limits.{running_text, room_per_byte};
 ghost use Rattle.base.specs.Grounds.{Finds, says, first_of};

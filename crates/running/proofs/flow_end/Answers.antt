@@ -1,0 +1,8 @@
+use Rattle.running.proofs.Laws.{end_part, end_done}
+use Rattle.running.proofs.flow_end.Goals as goal
+
+pub put_held-shown-requires : goal.put_held-shown-requires
+put_held-shown-requires c = end_part c.args.held.now c.args.size c.args.room.now c.requires.0 c.requires.1 c.requires.2
+
+pub returns : goal.returns
+returns c = end_done c.args.held.now c.args.size c.args.left c.args.right c.args.customer.now c.args.house.now c.args.table.now c.args.room.now c.put_held-shown.ensures

@@ -1,0 +1,9 @@
+use borrow.Author.Rules.{rules}
+use Rattle.running.proofs.Laws.{starts_ready, piece_done}
+use Rattle.running.proofs.flow_piece.Goals as goal
+
+pub take_bytes-end-requires : goal.take_bytes-end-requires
+take_bytes-end-requires c = starts_ready c.args.s (search rules) c.requires.0 c.args.piece.now c.args.room.now c.requires.1 c.requires.2
+
+pub returns : goal.returns
+returns c = piece_done c.args.s c.args.left c.args.right c.args.customer.now c.args.house.now c.args.table.now c.args.piece.now c.args.room.now c.take_bytes-end.ensures c.clear_from.ensures
