@@ -1,4 +1,6 @@
 // The checker: whether a table is right for a pattern list.
+#![tactic(auto)]
+
 ghost use Rattle.std.specs.Prelude.{◌≡◌, [], ◌≤◌, ◌<◌, length};
 ghost use Rattle.base.specs.Grounds.{Finds, says, first_of};
 ghost use Rattle.base.specs.Limits.{pattern_limit};

@@ -1,4 +1,6 @@
 // First fit's entries: made once, and shared where they are equal.
+#![tactic(auto)]
+
 ghost use Rattle.std.specs.Prelude.{◌≡◌, ◌+◌, ◌*◌, ◌≤◌, suc, length};
 ghost use Rattle.base.specs.Limits.{pattern_limit, entry_limit};
 ghost use Rattle.liang.specs.Patterns.{levels_from};

@@ -1,4 +1,6 @@
 // Phase 4 of the 1980 machine: the consonant pairs in the middle of a word. CR 4. Labels are 004's.
+#![tactic(auto)]
+
 ghost use Rattle.std.specs.Prelude.{◌≡◌, true, ◌&&◌, ◌+◌, ◌≤◌, eqb};
 ghost use Rattle.base.specs.Limits.{word_limit1980};
 ghost use Rattle.tables1980.specs.Words.{o};

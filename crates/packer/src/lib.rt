@@ -1,4 +1,6 @@
 // The packer: writes the first-fit table of a pattern list.
+#![tactic(auto)]
+
 ghost use Rattle.std.specs.Prelude.{◌≡◌, ◌+◌, ◌*◌, ◌≤◌, ◌<◌, length, take, drop, replicate};
 ghost use Rattle.base.specs.Limits.{cell_limit, entry_limit, pack_room};
 ghost use Rattle.base.specs.declared.Check.{Check};

@@ -1,4 +1,6 @@
 // First fit's placing: the cells of a list's paths, in lent rooms.
+#![tactic(auto)]
+
 ghost use Rattle.std.specs.Prelude.{not, ◌||◌, [], map, ◌≡◌, ◌+◌, ◌-◌, ◌≤◌, ◌<◌, ltb, eqb, length, drop, take, set};
 ghost use Rattle.base.specs.Limits.{symbol_limit, cell_limit};
 ghost use Rattle.words.specs.Symbols.{symbols_of};

@@ -1,4 +1,6 @@
 // The sheet that a word is written on for the 1980 machine. CR 4.
+#![tactic(auto)]
+
 ghost use Rattle.std.specs.Prelude.{◌≡◌, ◌+◌, length};
 ghost use Rattle.sheet1980.specs.Sheet.{sheet_of, mem, clear, vowel};
 

@@ -1,4 +1,6 @@
 // Phase 2 of the 1980 machine: the removal of suffixes. CR 4. Names are 004's.
+#![tactic(auto)]
+
 ghost use Rattle.std.specs.Prelude.{◌≡◌, cond, not, ◌&&◌, ◌||◌, ◌+◌, ◌-◌, ◌<◌, ◌≤◌, eqb};
 ghost use Rattle.base.specs.Limits.{word_limit1980, short_word1980};
 ghost use Rattle.tables1980.specs.Words.{o, ◌ε◌};

@@ -1,5 +1,7 @@
 // The tables of the 1980 machine: the words of the suffix and the prefix machine and of the consonant pairs, each table behind one reader.
 // CR 4. Each word has 36 bits. specs/ has the same tables in 004's own terms, and each reader's promise joins the two.
+#![tactic(auto)]
+
 ghost use Rattle.std.specs.Prelude.{◌≡◌};
 ghost use Rattle.tables1980.specs.Words.{◌ε◌};
 ghost use Rattle.tables1980.specs.Suffix.{suffix_words, suffix};

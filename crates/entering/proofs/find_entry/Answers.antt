@@ -1,0 +1,17 @@
+use borrow.Author.Rules.{rules}
+use Prim.Native.Nat.{◌-◌}
+use mathlib.Core.Path.{sym, ◌∙◌}
+use Rattle.entering.proofs.Laws.{find_start, find_here, find_on, find_none}
+use Rattle.entering.proofs.find_entry.Goals as goal
+
+pub loop-k-init : goal.loop-k-init
+loop-k-init c = (search rules, search rules, search rules, search rules, find_start _ _ _ _ _)
+
+pub returns-then-is_entry : goal.returns-then-is_entry
+returns-then-is_entry c = sym (c.loop-k.invariant.4 ∙ find_here _ _ _ _ _ _ c.loop-k-test.true (sym c.is_entry.ensures ∙ c.if-is_entry.true))
+
+pub loop-k-preserved : goal.loop-k-preserved
+loop-k-preserved c = (search rules, search rules, search rules, search rules, c.loop-k.invariant.4 ∙ find_on _ _ _ _ _ _ c.loop-k-test.true (sym c.is_entry.ensures ∙ c.if-is_entry.false))
+
+pub returns : goal.returns
+returns c = sym (c.loop-k.invariant.4 ∙ find_none _ _ _ _ _ _ c.loop-k-test.false)

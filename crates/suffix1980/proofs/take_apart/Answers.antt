@@ -1,0 +1,35 @@
+use Rattle.suffix1980.proofs.Laws as law
+use Rattle.suffix1980.proofs.take_apart.Goals as goal
+
+pub returns-then-opcode-eq0 : goal.returns-then-opcode-eq0
+returns-then-opcode-eq0 c = search law.apart
+
+pub returns-then-opcode-eq1 : goal.returns-then-opcode-eq1
+returns-then-opcode-eq1 c = search law.apart
+
+pub returns-then-opcode-eq2 : goal.returns-then-opcode-eq2
+returns-then-opcode-eq2 c = search law.apart
+
+pub returns-then-opcode-eq3 : goal.returns-then-opcode-eq3
+returns-then-opcode-eq3 c = search law.apart
+
+pub returns-then-opcode-eq4 : goal.returns-then-opcode-eq4
+returns-then-opcode-eq4 c = search law.apart
+
+pub returns-then-opcode-eq5 : goal.returns-then-opcode-eq5
+returns-then-opcode-eq5 c = search law.apart
+
+pub returns-then-opcode-eq6 : goal.returns-then-opcode-eq6
+returns-then-opcode-eq6 c = search law.apart
+
+pub returns-then-opcode-eq7 : goal.returns-then-opcode-eq7
+returns-then-opcode-eq7 c = search law.apart
+
+pub returns-then-opcode-eq8 : goal.returns-then-opcode-eq8
+returns-then-opcode-eq8 c = search law.apart
+
+pub returns-then-opcode-eq9 : goal.returns-then-opcode-eq9
+returns-then-opcode-eq9 c = search law.apart
+
+pub returns : goal.returns
+returns c = search law.apart_none
