@@ -1,4 +1,6 @@
 // The call of the 1980 machine: phases 2 to 5 of source document 004 for archive reprints. CR 4.
+#![tactic(auto)]
+
 ghost use Rattle.std.specs.Prelude.{[], ◌≡◌, ◌+◌, ◌<◌, ◌≤◌, length};
 ghost use Rattle.base.specs.Limits.{word_limit1980, room_size1980, short_word1980, budget1980};
 ghost use Rattle.base.specs.Grounds.{Finds, says, first_of};

@@ -1,4 +1,6 @@
 // Phase 3 of the 1980 machine: the removal of prefixes. CR 4. Names are 004's.
+#![tactic(auto)]
+
 ghost use Rattle.std.specs.Prelude.{◌≡◌, cond, ◌+◌, ◌-◌, ◌<◌, ◌≤◌, eqb};
 ghost use Rattle.base.specs.Limits.{word_limit1980, short_word1980};
 ghost use Rattle.tables1980.specs.Words.{◌ε◌};

@@ -1,4 +1,6 @@
-// The C interface: the nine calls, each answer as one number of 64 bits. include/tteolmigu.h declares them.
+// The C interface: the nine calls, each answer as one number of 64 bits. The crate tteolmigu_c exports them.
+#![tactic(auto)]
+
 ghost use Rattle.std.specs.Prelude.{◌≡◌, ◌-◌, length};
 ghost use Rattle.lookup.specs.Lookup.{locate};
 ghost use Rattle.rightness.specs.Test.{judge_check};
@@ -180,8 +182,7 @@ fn put_taken(taken: Taken, state: &mut [u8; states::STATE_SIZE]) -> u64
 }
 
 // The hyphenating call.
-#[unsafe(no_mangle)]
-pub extern "C" fn tteolmigu_hyphenate<'a>(
+pub fn tteolmigu_hyphenate<'a>(
     left: u64,
     right: u64,
     word: &[u8],
@@ -205,8 +206,7 @@ pub extern "C" fn tteolmigu_hyphenate<'a>(
 }
 
 // The levels call.
-#[unsafe(no_mangle)]
-pub extern "C" fn tteolmigu_levels(word: &[u8], table: &[u8], room: &mut [u8]) -> u64
+pub fn tteolmigu_levels(word: &[u8], table: &[u8], room: &mut [u8]) -> u64
     ensures bits { result ≡ answer_bits (levels_answer word.now table.now (length room.old)) }
     ensures memory { room.new ≡ levels_room word.now table.now room.old }
 {
@@ -214,8 +214,7 @@ pub extern "C" fn tteolmigu_levels(word: &[u8], table: &[u8], room: &mut [u8]) -
 }
 
 // The packer.
-#[unsafe(no_mangle)]
-pub extern "C" fn tteolmigu_pack(patterns: &[u8], room: &mut [u8]) -> u64
+pub fn tteolmigu_pack(patterns: &[u8], room: &mut [u8]) -> u64
     ensures bits { result ≡ packing_bits (pack_answer patterns.now (length room.old)) }
     ensures memory { room.new ≡ pack_leaves patterns.now room.old }
 {
@@ -223,24 +222,21 @@ pub extern "C" fn tteolmigu_pack(patterns: &[u8], room: &mut [u8]) -> u64
 }
 
 // The checker.
-#[unsafe(no_mangle)]
-pub extern "C" fn tteolmigu_check(patterns: &[u8], table: &[u8]) -> u64
+pub fn tteolmigu_check(patterns: &[u8], table: &[u8]) -> u64
     ensures { result ≡ check_bits (judge_check patterns.now table.now) }
 {
     check_bits(checker::check(patterns, table))
 }
 
 // The lookup.
-#[unsafe(no_mangle)]
-pub extern "C" fn tteolmigu_lookup(word: &[u8], customer: &[u8], house: &[u8]) -> u64
+pub fn tteolmigu_lookup(word: &[u8], customer: &[u8], house: &[u8]) -> u64
     ensures { result ≡ located_bits (locate word.now customer.now house.now) }
 {
     located_bits(lookup::locate_line(word, customer, house))
 }
 
 // The fitting call: which break of a word fits a line.
-#[unsafe(no_mangle)]
-pub extern "C" fn tteolmigu_fit(
+pub fn tteolmigu_fit(
     hyphen: f64,
     line: f64,
     widths: &[f64; base::WIDTH_COUNT],
@@ -257,8 +253,7 @@ pub extern "C" fn tteolmigu_fit(
 }
 
 // The 1980 machine.
-#[unsafe(no_mangle)]
-pub extern "C" fn tteolmigu_1980(word: &[u8], room: &mut [u8]) -> u64
+pub fn tteolmigu_1980(word: &[u8], room: &mut [u8]) -> u64
     ensures bits { result ≡ bits1980 (answer1980 budget1980 word.now (length room.old)) }
     ensures memory { room.new ≡ room1980 budget1980 word.now room.old }
 {
@@ -266,8 +261,7 @@ pub extern "C" fn tteolmigu_1980(word: &[u8], room: &mut [u8]) -> u64
 }
 
 // A piece of a running text.
-#[unsafe(no_mangle)]
-pub extern "C" fn tteolmigu_piece<'a>(
+pub fn tteolmigu_piece<'a>(
     state: &mut [u8; states::STATE_SIZE],
     left: u64,
     right: u64,
@@ -296,8 +290,7 @@ pub extern "C" fn tteolmigu_piece<'a>(
 }
 
 // The end of a running text.
-#[unsafe(no_mangle)]
-pub extern "C" fn tteolmigu_end<'a>(
+pub fn tteolmigu_end<'a>(
     state: &mut [u8; states::STATE_SIZE],
     left: u64,
     right: u64,

@@ -1,0 +1,7 @@
+use Rattle.tteolmigu.specs.Bits.{packing_bits}
+use mathlib.Core.Path.{◌∙◌, ap}
+use Rattle.packer.proofs.Order.{computed}
+use Rattle.tteolmigu.proofs.tteolmigu_pack.Goals as goal
+
+pub returns : goal.returns
+returns c = record { bits = c.packing_bits.ensures ∙ ap packing_bits (computed _ _ c.pack.ensures).answered; memory = (computed _ _ c.pack.ensures).memory }
