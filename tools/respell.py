@@ -116,7 +116,11 @@ def main():
                     return name
                 return table[name]
 
-            code = TOKEN.sub(one, code) if '"' not in code or path.endswith(".antt") else "".join(p if i % 2 else TOKEN.sub(one, p) for i, p in enumerate(re.split(r'("(?:[^"\\]|\\.)*")', code)))
+            pieces = []
+            for i, piece in enumerate(re.split(r'("(?:[^"\\]|\\.)*")', code)):
+                code = piece
+                pieces.append(piece if i % 2 else TOKEN.sub(one, piece))
+            code = "".join(pieces)
             remark = TOKEN.sub(lambda m: table[m.group(0)] if m.group(0) in table and camel(m.group(0)) else m.group(0), remark)
             out.append(code + mark + remark)
         return "\n".join(out)

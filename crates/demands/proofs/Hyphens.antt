@@ -177,7 +177,7 @@ module _ (left right n : ℕ) (line : List ℕ) (i : ℕ) (bytes : lettered line
   count_breaks c =
       let k : n ≡ length (symbols_of c.before) + length (symbols_of c.behind) = sym whole ∙ ap (λ (x : List ℕ). length (symbols_of x)) c.stands ∙ split_letters c.before c.behind in
       let h : hyphen_at line i ≡ true = rw (c.stands, ← c.letters) (found c.before c.behind (rw c.stands at bytes)) in
-      rw (le-leb left i (omega (arith, c.left-fits, c.letters)), le-leb right (n - i) (omega (arith, c.right-fits, c.letters, k)), h)
+      rw (le-leb left i (omega (arith, c.left_fits, c.letters)), le-leb right (n - i) (omega (arith, c.right_fits, c.letters, k)), h)
 
 -- "single hyphens only between two letters": a hyphen has a letter behind it, and one before it where the line begins
 record Between (after_letter : Bool) (before behind : List ℕ) : Type 0 where

@@ -83,8 +83,8 @@ strips =
     -- "it fits if it isn't above the line width"; "the whole word fits", though no break fits with its hyphen.
     ∷ same_list (fit_call one one (letters_of [] (near 1 4)) (bytes "abcd") (1 ∷ 2 ∷ 3 ∷ [])) whole
     -- "the last break that fits with its hyphen"; only "bytes 1 to n - 1 are read"; a capital is as wide as its small letter.
-    ∷ same_list (fit_call (near 1 4) one (letters_of [] (near 1 4)) (bytes "a_bc_de") (0 ∷ 1 ∷ 2 ∷ 3 ∷ 4 ∷ 5 ∷ [])) (after 3)
-    ∷ same_list (fit_call (near 1 4) one (letters_of [] (near 1 4)) (bytes "a_bc_de") (0 ∷ 4 ∷ 5 ∷ 6 ∷ [])) none
+    ∷ same_list (fit_call (near 1 4) one (letters_of [] (near 1 4)) (bytes "aBcDe") (0 ∷ 1 ∷ 2 ∷ 3 ∷ 4 ∷ 5 ∷ [])) (after 3)
+    ∷ same_list (fit_call (near 1 4) one (letters_of [] (near 1 4)) (bytes "aBcDe") (0 ∷ 4 ∷ 5 ∷ 6 ∷ [])) none
     -- "A given width outside 0 to 1,000": both ends and -0.0 are inside, their neighbours outside, used or not.
     ∷ same_list (fit_call width_limit width_limit (letters_of [] width_limit) (bytes "a") []) whole
     ∷ same_list (fit_call zero_width zero_width (letters_of [] (double 0x8000_0000_0000_0000)) (bytes "ab") []) whole
