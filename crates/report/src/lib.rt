@@ -1,4 +1,6 @@
 // The lines that the programs write, put into lent memory.
+#![tactic(auto)]
+
 ghost use Rattle.std.specs.Prelude.{[], ◌∷◌, ◌++◌, ◌+◌, ◌≤◌, length};
 ghost use Rattle.writing.specs.Put.{Put};
 ghost use Rattle.writing.specs.Writing.{hyphenated};

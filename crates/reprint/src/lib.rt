@@ -1,4 +1,6 @@
 // The line of a word that the 1980 machine breaks, put into lent memory.
+#![tactic(auto)]
+
 ghost use Rattle.std.specs.Prelude.{◌+◌, ◌≤◌, length};
 ghost use Rattle.reprint.specs.Reprint.{reprint_line, Reprinted};
 
