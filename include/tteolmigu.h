@@ -1,7 +1,7 @@
 /*
  * Tteolmigu: a hyphenator for print modules.
  *
- * Link with libtteolmigu.a, which 'rt staticlib tteolmigu' writes as target/staticlib/libtteolmigu.a. From the repository's top:
+ * Link with libtteolmigu.a, which './build tteolmigu' writes as target/staticlib/libtteolmigu.a. From the repository's top:
  *
  *     cc -std=c99 -Iinclude program.c target/staticlib/libtteolmigu.a -o program
  *

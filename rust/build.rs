@@ -27,7 +27,7 @@ fn main() {
     println!("cargo:rerun-if-changed={}", library.display());
     if !library.is_file() {
         eprintln!("{} is missing.", library.display());
-        eprintln!("Run 'rt staticlib tteolmigu' in the repository that holds this package,");
+        eprintln!("Run './build tteolmigu' in the repository that holds this package,");
         eprintln!("or set TTEOLMIGU_LIB_DIR to the folder that has libtteolmigu.a.");
         exit(1);
     }

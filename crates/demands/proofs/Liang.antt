@@ -1,7 +1,7 @@
 -- Over cells and entries whose paths from a root are right for a list: a word's levels and breaks are those of Liang's method, and
 -- its walks follow the longest beginnings. Nothing is said of a head or of other lists, so each list of a table has all of this from
 -- its own root.
-use Prim.Native.Nat.{ℕ, zero, suc, ◌+◌, ◌≤◌, ◌<◌}
+use Prim.Native.Nat.{ℕ, zero, suc, ◌≤◌, ◌<◌}
 use mathlib.Core.Bool.{Bool, true, false, ◌&&◌}
 use mathlib.Core.List.{List, [], ◌∷◌, ◌++◌}
 use mathlib.Core.Path.{◌≡◌, refl, sym, ◌∙◌, ap}

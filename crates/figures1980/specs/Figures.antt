@@ -1,56 +1,44 @@
 -- CR 4's figures: words with their breaks and the instructions executed, as another reading of 004 gives them, and what the call says of
 -- words at its edges; one table under one statement.
-use Rattle.std.specs.Prelude.{ℕ, suc, ◌+◌, Bool, true, cond, ◌&&◌, List, [], ◌∷◌, ◌++◌, ◌≡◌, refl, eqb, length, replicate}
+use Rattle.std.specs.Prelude.{ℕ, suc, Bool, true, cond, ◌&&◌, List, [], ◌∷◌, ◌++◌, eqb, length, replicate}
 use Prim.Native.Char.{code}
 use Prim.Native.String.{String, [] as «empty», ◌∷◌ as ◌then◌}
 use Rattle.base.specs.Limits.{budget1980}
-use Rattle.base.specs.Grounds.{Said, Finds, Refuses, first_of}
+use Rattle.base.specs.Grounds.{Said, Finds, Refuses}
 use Rattle.base.specs.Tests.{same_list}
-use Rattle.rooms.specs.Rooms.{sheet_from, sheet, nonzero}
-use Rattle.words.specs.Symbols.{small, capital, letter}
-use Rattle.words.specs.Words.{letters_alone, leading, grounds_by}
-use Rattle.tables1980.specs.Suffix.{suffix_words, suffix}
-use Rattle.tables1980.specs.Prefix.{prefix_words, prefix}
-use Rattle.tables1980.specs.Pairs.{pair_words, btable}
-use Rattle.sheet1980.specs.Sheet.{sheet_of, mem, clear, vowel}
-use Rattle.suffix1980.specs.Suffixes.{final_at, interps, suffixes, phase2}
-use Rattle.suffix1980.specs.Suffixes as suf
-use Rattle.middle1980.specs.Middles.{joins_h, with_h, is_pair, is_weak, liquid, doubled, ends_in_age, ends_in_est, weakly, paired, between, third, second, pair, ends_in_er, mark_at, scan_vowel, pass_vowel, onward, middles, phase4}
-use Rattle.prefix1980.specs.Prefixes.{interpp, prefixes, phase3}
-use Rattle.prefix1980.specs.Prefixes as pre
-use Rattle.machine1980.specs.Run.{Outcome, RanOut, Marked, from_prefixes, from_suffixes, run, machine}
-use Rattle.machine1980.specs.Breaks.{shows, in_print, is_break, break_sheet}
-use Rattle.machine1980.specs.Calls.{grounds1980, values_of, answer1980}
+use Rattle.machine1980.specs.Run.{Outcome, RanOut, Marked, machine}
+use Rattle.machine1980.specs.Breaks.{break_sheet}
+use Rattle.machine1980.specs.Calls.{answer1980}
 
-abbrev bytes : String → List ℕ
+abbrev pub bytes : String → List ℕ
 bytes «empty» = []
 bytes (c then s) = code c ∷ bytes s
 
 -- The places of the bytes that aren't 0.
-abbrev marked : ℕ → List ℕ → List ℕ
+abbrev pub marked : ℕ → List ℕ → List ℕ
 marked k [] = []
 marked k (b ∷ rest) = cond (eqb b 0) (marked (suc k) rest) (k ∷ marked (suc k) rest)
 
 -- The instructions executed, then the gaps that break; nothing where the budget runs out.
-abbrev found : ℕ → Outcome → List ℕ
+abbrev pub found : ℕ → Outcome → List ℕ
 found n RanOut = []
 found n (Marked finale marks executed) = executed ∷ marked 0 (break_sheet n finale marks)
 
-abbrev machined : ℕ → List ℕ → List ℕ
+abbrev pub machined : ℕ → List ℕ → List ℕ
 machined budget word = found (length word) (machine budget word)
 
-abbrev row : String → List ℕ → ℕ → Bool
+abbrev pub row : String → List ℕ → ℕ → Bool
 row word gaps executed = same_list (machined budget1980 (bytes word)) (executed ∷ gaps)
 
 -- What the call says of a word: 0 and its values, or number, list and place.
-abbrev in_numbers : Said → List ℕ
+abbrev pub in_numbers : Said → List ℕ
 in_numbers (Finds values) = 0 ∷ values
 in_numbers (Refuses t) = t.number ∷ t.list ∷ t.place ∷ []
 
-abbrev says : List ℕ → ℕ → List ℕ → Bool
+abbrev pub says : List ℕ → ℕ → List ℕ → Bool
 says word size numbers = same_list (in_numbers (answer1980 budget1980 word size)) numbers
 
-abbrev all_of : List Bool → Bool
+abbrev pub all_of : List Bool → Bool
 all_of [] = true
 all_of (b ∷ t) = b && all_of t
 
@@ -161,11 +149,3 @@ edges =
     ∷ says (bytes "l'entrata") 64 (3 ∷ 0 ∷ 1 ∷ [])
     ∷ says (bytes "hyph") 64 (0 ∷ 0 ∷ 0 ∷ 0 ∷ [])
     ∷ []
-
-pub figures : all_of words ≡ true
-unfolding words same_list sheet_from sheet suffix_words suffix prefix_words prefix pair_words btable sheet_of mem clear vowel final_at interps suffixes phase2 suf.decode joins_h with_h is_pair is_weak liquid doubled ends_in_age ends_in_est weakly paired between third second pair ends_in_er mark_at scan_vowel pass_vowel onward middles phase4 interpp prefixes phase3 pre.decode from_prefixes from_suffixes run machine shows in_print is_break break_sheet
-figures = refl
-
-pub edge_figures : all_of edges ≡ true
-unfolding edges same_list sheet_from sheet nonzero suffix_words suffix prefix_words prefix pair_words btable sheet_of mem clear vowel final_at interps suffixes phase2 suf.decode joins_h with_h is_pair is_weak liquid doubled ends_in_age ends_in_est weakly paired between third second pair ends_in_er mark_at scan_vowel pass_vowel onward middles phase4 interpp prefixes phase3 pre.decode from_prefixes from_suffixes run machine shows in_print is_break break_sheet small capital letter letters_alone leading grounds_by grounds1980 values_of answer1980 first_of
-edge_figures = refl

@@ -1,5 +1,5 @@
 -- First fit: the whole table's bytes.
-use Rattle.std.specs.Prelude.{ℕ, zero, suc, ◌+◌, ◌*◌, List, ◌++◌, set, take}
+use Rattle.std.specs.Prelude.{ℕ, zero, suc, ◌*◌, List, ◌++◌, set, take}
 use Rattle.base.specs.Limits.{cell_limit}
 use Rattle.liang.specs.Patterns.{Pattern}
 use Rattle.table.specs.Table.{cell_kind, cell_size, entry_size, root_base}

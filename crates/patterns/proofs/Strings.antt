@@ -1,5 +1,5 @@
 -- Laws about strings: beginnings, what two lists share, their symbols, and what is asked of every pattern of a list.
-use Prim.Native.Nat.{ℕ, zero, suc, ◌+◌, ◌≤◌, ◌<◌, max}
+use Prim.Native.Nat.{ℕ, zero, suc, ◌≤◌, ◌<◌, max}
 use mathlib.Core.Bool.{Bool, true, false, cond, ◌&&◌}
 use mathlib.Core.List.{List, [], ◌∷◌, ◌++◌, List-discrete}
 use mathlib.Core.Logic.{◌⊎◌, inl, inr}

@@ -1,5 +1,4 @@
 use borrow.Author.Rules.{rules}
-use Prim.Native.Nat.{◌-◌}
 use mathlib.Core.Path.{sym, ◌∙◌}
 use Rattle.checker.proofs.Laws.{kinds_past, kinds_other, kinds_pass, kinds_end, kinds_start as law-start}
 use Rattle.checker.proofs.are_kinds.Goals as goal

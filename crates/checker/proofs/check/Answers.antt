@@ -1,5 +1,4 @@
 use mathlib.Core.Path.{sym, ◌∙◌}
-use borrow.Author.Tests.{not-true, not-false}
 use Rattle.base.proofs.Grounds.{pass, stop, said_by, judged_by}
 use Rattle.lists.proofs.Order.{patterns_ordered}
 use Rattle.table.proofs.Order.{table_ordered}
@@ -19,15 +18,15 @@ returns-in-Refused-form c = said_by (check_ordered _ _) (sym (pass _ (judged_by 
 
 pub returns-then-not-has_kinds : goal.returns-then-not-has_kinds
 unfolding judge_check
-returns-then-not-has_kinds c = said_by (check_ordered _ _) (sym (pass _ (judged_by (patterns_ordered _) c.judge_patterns-list.ensures) c.in_default.is ∙ pass _ (judged_by (table_ordered _) c.judge_table-form.ensures) c.in_default-form.is ∙ refused_kinds _ _ c.cells_of-cells.ensures.bytes c.entries_of-entries.ensures.bytes c.cell_count.ensures c.entry_count.ensures c.has_kinds.ensures (not-true _ c.if-not-has_kinds.true-raw)))
+returns-then-not-has_kinds c = said_by (check_ordered _ _) (sym (pass _ (judged_by (patterns_ordered _) c.judge_patterns-list.ensures) c.in_default.is ∙ pass _ (judged_by (table_ordered _) c.judge_table-form.ensures) c.in_default-form.is ∙ refused_kinds _ _ c.cells_of-cells.ensures.bytes c.entries_of-entries.ensures.bytes c.cell_count.ensures c.entry_count.ensures c.has_kinds.ensures c.if-not-has_kinds.true))
 
 pub is_right-requires : goal.is_right-requires
 is_right-requires c = patterns_good _ (sym (judged_by (patterns_ordered _) c.judge_patterns-list.ensures) ∙ c.in_default.is)
 
 pub returns-then-not-is_right : goal.returns-then-not-is_right
 unfolding judge_check
-returns-then-not-is_right c = said_by (check_ordered _ _) (sym (pass _ (judged_by (patterns_ordered _) c.judge_patterns-list.ensures) c.in_default.is ∙ pass _ (judged_by (table_ordered _) c.judge_table-form.ensures) c.in_default-form.is ∙ refused_paths _ _ c.cells_of-cells.ensures.bytes c.entries_of-entries.ensures.bytes c.cell_count.ensures c.entry_count.ensures c.has_kinds.ensures (not-false _ c.if-not-has_kinds.false-raw) c.is_right.ensures (not-true _ c.if-not-is_right.true-raw)))
+returns-then-not-is_right c = said_by (check_ordered _ _) (sym (pass _ (judged_by (patterns_ordered _) c.judge_patterns-list.ensures) c.in_default.is ∙ pass _ (judged_by (table_ordered _) c.judge_table-form.ensures) c.in_default-form.is ∙ refused_paths _ _ c.cells_of-cells.ensures.bytes c.entries_of-entries.ensures.bytes c.cell_count.ensures c.entry_count.ensures c.has_kinds.ensures c.if-not-has_kinds.false c.is_right.ensures c.if-not-is_right.true))
 
 pub returns : goal.returns
 unfolding judge_check
-returns c = said_by (check_ordered _ _) (sym (pass _ (judged_by (patterns_ordered _) c.judge_patterns-list.ensures) c.in_default.is ∙ pass _ (judged_by (table_ordered _) c.judge_table-form.ensures) c.in_default-form.is ∙ accepted_right _ _ c.cells_of-cells.ensures.bytes c.entries_of-entries.ensures.bytes c.cell_count.ensures c.entry_count.ensures c.has_kinds.ensures (not-false _ c.if-not-has_kinds.false-raw) c.is_right.ensures (not-false _ c.if-not-is_right.false-raw)))
+returns c = said_by (check_ordered _ _) (sym (pass _ (judged_by (patterns_ordered _) c.judge_patterns-list.ensures) c.in_default.is ∙ pass _ (judged_by (table_ordered _) c.judge_table-form.ensures) c.in_default-form.is ∙ accepted_right _ _ c.cells_of-cells.ensures.bytes c.entries_of-entries.ensures.bytes c.cell_count.ensures c.entry_count.ensures c.has_kinds.ensures c.if-not-has_kinds.false c.is_right.ensures c.if-not-is_right.false))

@@ -1,4 +1,3 @@
-use Prim.Native.Nat.{◌-◌}
 use mathlib.Core.Path.{sym, ◌∙◌}
 use Rattle.base.proofs.All.{all_pass, all_fail, all_end}
 use Rattle.checker.proofs.Laws.{none_leaf, none_start, free_hit, free_miss}

@@ -1,7 +1,5 @@
-use Prim.Native.Nat.{◌-◌}
 use mathlib.Core.Path.{sym}
 use native.Mathlib.Omega.{arith}
-use borrow.Author.Tests.{not-true, not-false}
 use Rattle.lines.proofs.Laws.{line_starts}
 use Rattle.checker.proofs.Laws.{line_in, line_short, lined_start, lined_wrong, lined_on, lined_done}
 use Rattle.checker.proofs.is_right.Goals as goal
@@ -40,13 +38,13 @@ pub is_followed-requires : goal.is_followed-requires
 is_followed-requires c = line_short _ _ _ _ _ _ _ _ c.loop-at.invariant c.loop-at-test.true
 
 pub returns-then-not-is_followed : goal.returns-then-not-is_followed
-returns-then-not-is_followed c = sym (lined_wrong _ _ _ _ _ _ _ _ c.loop-at.invariant c.loop-at-test.true _ c.line_end-next.ensures c.part_lines-below.ensures c.is_followed.ensures (not-true _ c.if-not-is_followed.true-raw))
+returns-then-not-is_followed c = sym (lined_wrong _ _ _ _ _ _ _ _ c.loop-at.invariant c.loop-at-test.true _ c.line_end-next.ensures c.part_lines-below.ensures c.is_followed.ensures c.if-not-is_followed.true)
 
 pub loop-at-smaller : goal.loop-at-smaller
 loop-at-smaller c = omega (arith, line_starts _ _ _ c.loop-at-test.true c.loop-at.invariant.ends)
 
 pub loop-at-preserved : goal.loop-at-preserved
-loop-at-preserved c = lined_on _ _ _ _ _ _ _ _ c.loop-at.invariant c.loop-at-test.true _ c.line_end-next.ensures c.part_lines-below.ensures c.is_followed.ensures (not-false _ c.if-not-is_followed.false-raw)
+loop-at-preserved c = lined_on _ _ _ _ _ _ _ _ c.loop-at.invariant c.loop-at-test.true _ c.line_end-next.ensures c.part_lines-below.ensures c.is_followed.ensures c.if-not-is_followed.false
 
 pub returns : goal.returns
 returns c = lined_done _ _ _ _ _ _ _ _ c.loop-at.invariant c.loop-at-test.false c.is_none_between.ensures

@@ -1,5 +1,5 @@
 use borrow.Author.Rules.{rules}
-use Prim.Native.Nat.{◌≤◌, ◌-◌}
+use Prim.Native.Nat.{◌≤◌}
 use mathlib.Core.Path.{sym, ◌∙◌, ap, subst}
 use Rattle.base.specs.Limits.{entry_limit}
 use Rattle.entering.specs.Post.{as_entries, count_of}

@@ -1,5 +1,4 @@
 use borrow.Author.Rules.{rules}
-use Prim.Native.Nat.{◌-◌}
 use mathlib.Core.Path.{sym, ◌∙◌}
 use Rattle.entering.proofs.Laws.{find_start, find_here, find_on, find_none}
 use Rattle.entering.proofs.find_entry.Goals as goal

@@ -1,4 +1,3 @@
-use Prim.Native.Nat.{◌-◌}
 use Rattle.flowing.proofs.Pieces.{start, ready_one, turn, done}
 use Rattle.flowing.proofs.take_bytes.Goals as goal
 

@@ -1,5 +1,4 @@
 use borrow.Author.Rules.{rules}
-use Prim.Native.Nat.{◌-◌}
 use mathlib.Core.Path.{sym, ◌∙◌}
 use Rattle.gauge.proofs.Laws.{any_stop, any_pass, any_end}
 use Rattle.gauge.proofs.any_bad.Goals as goal

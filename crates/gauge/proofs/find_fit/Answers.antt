@@ -1,5 +1,4 @@
 use borrow.Author.Rules.{rules}
-use Prim.Native.Nat.{◌-◌}
 use native.Mathlib.Omega.{arith}
 use lib.Ieee.{of_bits}
 use Rattle.gauge.proofs.Laws.{some_letter, letter_at, measured_letter, gap_at, all_letters, measured_none, measured_more, found_whole, found_none, found_break}

@@ -1,10 +1,9 @@
-use mathlib.Core.Logic.{⊎_elim}
 use mathlib.Core.Path.{sym, ◌∙◌}
 use native.Mathlib.Omega.{arith}
 use Rattle.lookup.proofs.Laws.{customer_within, house_within}
 use Rattle.hyphenation.specs.Breaks.{break_sheet, break_looks}
 use Rattle.hyphenation.specs.Post.{Done}
-use Rattle.hyphenation.proofs.Rooms.{by_customer, by_house, by_levels, done_as, breaks_kept}
+use Rattle.hyphenation.proofs.Rooms.{by_customer, by_house, by_levels, done_as}
 use Rattle.hyphenation.proofs.Calls.{breaks_counted}
 use Rattle.hyphenation.proofs.find_breaks.Goals as goal
 use Rattle.hyphenation.proofs.find_breaks.Goals.{in-Customer, in-House, in-Nowhere}

@@ -1,5 +1,4 @@
 use borrow.Author.Rules.{rules}
-use Prim.Native.Nat.{◌-◌}
 use mathlib.Core.Path.{refl, sym, ◌∙◌}
 use lib.ListN.{length-set}
 use Rattle.hyphenation.proofs.Laws.{mark_letter, mark_hyphen, mark_outside, mark_far, mark_end}

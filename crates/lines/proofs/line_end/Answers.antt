@@ -1,4 +1,3 @@
-use Prim.Native.Nat.{◌-◌}
 use mathlib.Core.Path.{refl}
 use Rattle.lines.proofs.Laws.{end_here, end_on, end_out}
 use Rattle.lines.proofs.line_end.Goals as goal

@@ -1,6 +1,4 @@
-use Prim.Native.Nat.{◌-◌}
 use mathlib.Core.Path.{sym, ◌∙◌}
-use borrow.Author.Tests.{not-true, not-false}
 use Rattle.lines.proofs.Laws as law
 use Rattle.lines.proofs.pattern_end.Goals as goal
 
@@ -17,10 +15,10 @@ pub loop-i-preserved-then-is_digit : goal.loop-i-preserved-then-is_digit
 loop-i-preserved-then-is_digit c = law.patterned_digit _ _ _ _ _ _ _ _ _ c.loop-i.invariant c.loop-i-test.true (sym c.is_small.ensures ∙ c.if-is_small.false) (sym c.is_digit.ensures ∙ c.if-is_digit.true) c.if-after_digit.false
 
 pub returns-then-not-dot_fits : goal.returns-then-not-dot_fits
-returns-then-not-dot_fits c = law.end_bad _ (law.patterned_no_dot _ _ _ _ _ _ _ _ _ c.loop-i.invariant c.loop-i-test.true (sym c.is_small.ensures ∙ c.if-is_small.false) (sym c.is_digit.ensures ∙ c.if-is_digit.false) c.if-b-eq-DOT.true (sym c.dot_fits.ensures ∙ not-true _ c.if-not-dot_fits.true-raw))
+returns-then-not-dot_fits c = law.end_bad _ (law.patterned_no_dot _ _ _ _ _ _ _ _ _ c.loop-i.invariant c.loop-i-test.true (sym c.is_small.ensures ∙ c.if-is_small.false) (sym c.is_digit.ensures ∙ c.if-is_digit.false) c.if-b-eq-DOT.true (sym c.dot_fits.ensures ∙ c.if-not-dot_fits.true))
 
 pub loop-i-preserved-then-b-eq-DOT : goal.loop-i-preserved-then-b-eq-DOT
-loop-i-preserved-then-b-eq-DOT c = law.patterned_dot _ _ _ _ _ _ _ _ _ c.loop-i.invariant c.loop-i-test.true (sym c.is_small.ensures ∙ c.if-is_small.false) (sym c.is_digit.ensures ∙ c.if-is_digit.false) c.if-b-eq-DOT.true (sym c.dot_fits.ensures ∙ not-false _ c.if-not-dot_fits.false-raw)
+loop-i-preserved-then-b-eq-DOT c = law.patterned_dot _ _ _ _ _ _ _ _ _ c.loop-i.invariant c.loop-i-test.true (sym c.is_small.ensures ∙ c.if-is_small.false) (sym c.is_digit.ensures ∙ c.if-is_digit.false) c.if-b-eq-DOT.true (sym c.dot_fits.ensures ∙ c.if-not-dot_fits.false)
 
 pub loop-i-preserved : goal.loop-i-preserved
 loop-i-preserved c = law.patterned_apostrophe _ _ _ _ _ _ _ _ _ c.loop-i.invariant c.loop-i-test.true (sym c.is_small.ensures ∙ c.if-is_small.false) (sym c.is_digit.ensures ∙ c.if-is_digit.false) c.if-b-eq-APOSTROPHE.true

@@ -1,5 +1,4 @@
 use borrow.Author.Rules.{rules}
-use Prim.Native.Nat.{◌-◌}
 use mathlib.Core.Path.{◌∙◌}
 use Rattle.lines.proofs.Laws.{order_start, order_same, order_left}
 use Rattle.lines.proofs.same_bytes.Goals as goal

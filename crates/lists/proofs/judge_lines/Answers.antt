@@ -1,8 +1,6 @@
 use borrow.Author.Rules.{rules}
-use Prim.Native.Nat.{◌-◌}
 use mathlib.Core.Path.{sym, ◌∙◌}
 use native.Mathlib.Omega.{arith}
-use borrow.Author.Tests.{not-true, not-false}
 use Rattle.lines.proofs.Laws.{line_starts, line_ends}
 use Rattle.lists.proofs.Laws.{lines_start, lines_end, found_end, line_bad, line_low, line_good}
 use Rattle.lists.proofs.judge_lines.Goals as goal
@@ -23,13 +21,13 @@ pub slice_bounds-ascends-end-in-loop-at : goal.slice_bounds-ascends-end-in-loop-
 slice_bounds-ascends-end-in-loop-at c = line_ends _ _ _ c.loop-at-test.true (found_end _ _ _ c.good_end-found.ensures c.in-At.is)
 
 pub returns-then-not-ascends : goal.returns-then-not-ascends
-returns-then-not-ascends c = sym (c.loop-at.invariant.2 ∙ line_low _ _ _ c.good_end-found.ensures _ c.loop-at-test.true c.in-At.is (sym c.ascends.ensures ∙ not-true _ c.if-not-ascends.true-raw))
+returns-then-not-ascends c = sym (c.loop-at.invariant.2 ∙ line_low _ _ _ c.good_end-found.ensures _ c.loop-at-test.true c.in-At.is (sym c.ascends.ensures ∙ c.if-not-ascends.true))
 
 pub loop-at-smaller : goal.loop-at-smaller
 loop-at-smaller c = omega (arith, line_starts _ _ _ c.loop-at-test.true (found_end _ _ _ c.good_end-found.ensures c.in-At.is))
 
 pub loop-at-preserved : goal.loop-at-preserved
-loop-at-preserved c = (omega (arith, line_starts _ _ _ c.loop-at-test.true (found_end _ _ _ c.good_end-found.ensures c.in-At.is)), line_ends _ _ _ c.loop-at-test.true (found_end _ _ _ c.good_end-found.ensures c.in-At.is), c.loop-at.invariant.2 ∙ line_good _ _ _ c.good_end-found.ensures _ c.loop-at-test.true c.in-At.is (sym c.ascends.ensures ∙ not-false _ c.if-not-ascends.false-raw))
+loop-at-preserved c = (omega (arith, line_starts _ _ _ c.loop-at-test.true (found_end _ _ _ c.good_end-found.ensures c.in-At.is)), line_ends _ _ _ c.loop-at-test.true (found_end _ _ _ c.good_end-found.ensures c.in-At.is), c.loop-at.invariant.2 ∙ line_good _ _ _ c.good_end-found.ensures _ c.loop-at-test.true c.in-At.is (sym c.ascends.ensures ∙ c.if-not-ascends.false))
 
 pub returns : goal.returns
 returns c = sym (c.loop-at.invariant.2 ∙ lines_end _ _ _ _ c.loop-at-test.false)

@@ -1,4 +1,3 @@
-use borrow.Author.Tests.{not-true, not-false}
 use mathlib.Core.Path.{sym, ◌∙◌}
 use Rattle.lookup.proofs.Compare as law
 use Rattle.lookup.proofs.has_pairs.Goals as goal
@@ -12,10 +11,10 @@ returns-then-line-lt2 c = law.unpaired_line c.args.word.now c.args.line.now c.if
 pub returns-then-not-is_small : goal.returns-then-not-is_small
 returns-then-not-is_small c =
     law.unpaired_first c.args.word.now c.args.line.now c.if-word-lt2.false c.if-line-lt2.false
-    (sym c.is_small.ensures ∙ not-true _ c.if-not-is_small.true-raw)
+    (sym c.is_small.ensures ∙ c.if-not-is_small.true)
 
 pub returns : goal.returns
 returns c =
     c.is_small-2.ensures
     ∙ law.paired_second c.args.word.now c.args.line.now c.if-word-lt2.false
-    c.if-line-lt2.false (sym c.is_small.ensures ∙ not-false _ c.if-not-is_small.false-raw)
+    c.if-line-lt2.false (sym c.is_small.ensures ∙ c.if-not-is_small.false)

@@ -1,5 +1,4 @@
 -- Where both begin with two letters, these part, or word and line are the same where they are so behind them.
-use borrow.Author.Tests.{not-true, not-false}
 use mathlib.Core.Path.{sym, ◌∙◌}
 use native.Mathlib.Omega.{arith}
 use Rattle.lookup.proofs.Compare as law
@@ -8,27 +7,27 @@ use Rattle.lookup.proofs.is_line_of.Goals as goal
 pub bounds-word-0 : goal.bounds-word-0
 bounds-word-0 c =
     let s = c in
-    law.word_has s.args.word.now s.args.line.now (sym c.has_pairs.ensures ∙ not-false _ c.if-not-has_pairs.false-raw) 0 (omega arith)
+    law.word_has s.args.word.now s.args.line.now (sym c.has_pairs.ensures ∙ c.if-not-has_pairs.false) 0 (omega arith)
 
 pub bounds-word-1 : goal.bounds-word-1
 bounds-word-1 c =
     let s = c in
-    law.word_has s.args.word.now s.args.line.now (sym c.has_pairs.ensures ∙ not-false _ c.if-not-has_pairs.false-raw) 1 (omega arith)
+    law.word_has s.args.word.now s.args.line.now (sym c.has_pairs.ensures ∙ c.if-not-has_pairs.false) 1 (omega arith)
 
 pub bounds-line-0 : goal.bounds-line-0
 bounds-line-0 c =
     let s = c in
-    law.line_has s.args.word.now s.args.line.now (sym c.has_pairs.ensures ∙ not-false _ c.if-not-has_pairs.false-raw) 0 (omega arith)
+    law.line_has s.args.word.now s.args.line.now (sym c.has_pairs.ensures ∙ c.if-not-has_pairs.false) 0 (omega arith)
 
 pub bounds-line-1 : goal.bounds-line-1
 bounds-line-1 c =
     let s = c in
-    law.line_has s.args.word.now s.args.line.now (sym c.has_pairs.ensures ∙ not-false _ c.if-not-has_pairs.false-raw) 1 (omega arith)
+    law.line_has s.args.word.now s.args.line.now (sym c.has_pairs.ensures ∙ c.if-not-has_pairs.false) 1 (omega arith)
 
 pub returns-then-not-meet_both : goal.returns-then-not-meet_both
 returns-then-not-meet_both c =
     let s = c in
-    sym (law.same_start _ 0 _ 0 ∙ law.pair_parts s.args.word.now s.args.line.now (sym c.has_pairs.ensures ∙ not-false _ c.if-not-has_pairs.false-raw) (sym c.meet_both.ensures ∙ not-true _ c.if-not-meet_both.true-raw))
+    sym (law.same_start _ 0 _ 0 ∙ law.pair_parts s.args.word.now s.args.line.now (sym c.has_pairs.ensures ∙ c.if-not-has_pairs.false) (sym c.meet_both.ensures ∙ c.if-not-meet_both.true))
 
 pub returns : goal.returns
 returns c =
@@ -37,4 +36,4 @@ returns c =
     ∙ law.same_start _ 2 _ 2
     ∙ sym
     (law.same_start _ 0 _ 0
-    ∙ law.pair_agrees s.args.word.now s.args.line.now (sym c.has_pairs.ensures ∙ not-false _ c.if-not-has_pairs.false-raw) (sym c.meet_both.ensures ∙ not-false _ c.if-not-meet_both.false-raw))
+    ∙ law.pair_agrees s.args.word.now s.args.line.now (sym c.has_pairs.ensures ∙ c.if-not-has_pairs.false) (sym c.meet_both.ensures ∙ c.if-not-meet_both.false))

@@ -1,4 +1,3 @@
-use Prim.Native.Nat.{◌-◌}
 use mathlib.Core.Path.{sym, ◌∙◌}
 use Rattle.lookup.proofs.Compare as law
 use Rattle.lookup.proofs.same_symbols.Goals as goal

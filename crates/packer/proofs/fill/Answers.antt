@@ -2,7 +2,6 @@ use borrow.Author.Rules.{rules}
 use Prim.Native.Nat.{◌≤◌}
 use mathlib.Core.Path.{refl, ◌∙◌, ap, subst}
 use native.Mathlib.Omega.{arith}
-use borrow.Author.Tests.{not-true, not-false}
 use Rattle.base.specs.Limits.{entry_limit}
 use Rattle.liang.specs.Patterns.{patterns_of}
 use Rattle.table.specs.Table.{cell_room, entry_room}
@@ -14,7 +13,7 @@ pub place_all-requires : goal.place_all-requires
 place_all-requires c = sized_start c.requires.0 refl
 
 pub returns-then-not-place_all : goal.returns-then-not-place_all
-returns-then-not-place_all c = record { text_value = fit_full (patterns_of c.args.text.now) c.requires.0 c.requires.1 refl (c.place_all.ensures.placed.full (not-true _ c.if-not-place_all.true-raw)); bounded = search rules }
+returns-then-not-place_all c = record { text_value = fit_full (patterns_of c.args.text.now) c.requires.0 c.requires.1 refl (c.place_all.ensures.placed.full c.if-not-place_all.true); bounded = search rules }
 
 pub used_cells-count-requires : goal.used_cells-count-requires
 used_cells-count-requires c = size_kept cell_room c.requires.0 c.place_all.auto.cells

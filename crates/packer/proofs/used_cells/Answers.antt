@@ -1,5 +1,4 @@
 use borrow.Author.Rules.{rules}
-use Prim.Native.Nat.{◌-◌}
 use mathlib.Core.Path.{refl, sym, ◌∙◌}
 use Rattle.packer.proofs.Laws.{used_here, used_on, used_end}
 use Rattle.packer.proofs.used_cells.Goals as goal

@@ -1,11 +1,11 @@
 use borrow.Author.Rules.{rules}
-use Prim.Native.Nat.{ℕ, ◌+◌, ◌-◌}
+use Prim.Native.Nat.{ℕ, ◌+◌}
 use mathlib.Core.List.{List, []}
 use mathlib.Core.Path.{refl, sym, ◌∙◌, ap}
 use lib.ListN.{get_or, drop}
 use Rattle.liang.specs.Patterns.{levels_from}
 use Rattle.patterns.proofs.Laws.{levels_digit, levels_symbol, levels_other, levels_end, get_d_pred}
-use Prim.Native.Nat.{ℕ, ◌-◌}
+use Prim.Native.Nat.{ℕ}
 use mathlib.Core.List.{List, []}
 use Rattle.patterns.proofs.level_at.Goals as goal
 

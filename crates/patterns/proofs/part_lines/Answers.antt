@@ -1,5 +1,4 @@
 use borrow.Author.Rules.{rules}
-use Prim.Native.Nat.{◌-◌}
 use Rattle.patterns.proofs.Laws as law
 use Rattle.patterns.proofs.part_lines.Goals as goal
 

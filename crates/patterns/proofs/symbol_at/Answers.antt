@@ -1,11 +1,11 @@
 use borrow.Author.Rules.{rules}
-use Prim.Native.Nat.{ℕ, ◌+◌, ◌-◌}
+use Prim.Native.Nat.{ℕ, ◌+◌}
 use mathlib.Core.List.{List}
 use mathlib.Core.Path.{refl, sym, ◌∙◌, ap}
 use lib.ListN.{get_or, drop}
 use Rattle.words.specs.Symbols.{symbols_of}
 use Rattle.patterns.proofs.Laws.{rest_skip, rest_keep, rest_end, get_d_pred}
-use Prim.Native.Nat.{ℕ, ◌-◌}
+use Prim.Native.Nat.{ℕ}
 use mathlib.Core.List.{List}
 use Rattle.patterns.proofs.symbol_at.Goals as goal
 

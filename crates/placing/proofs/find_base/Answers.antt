@@ -2,7 +2,6 @@ use Rattle.placing.proofs.Laws.{smallest_here, smallest_on, smallest_end}
 use Rattle.base.specs.Limits.{cell_limit}
 use native.Mathlib.Omega.{arith}
 use mathlib.Core.Path.{refl, sym, ◌∙◌}
-use Prim.Native.Nat.{◌-◌}
 use borrow.Author.Rules.{rules}
 use Rattle.placing.proofs.find_base.Goals as goal
 

@@ -1,8 +1,6 @@
 use borrow.Author.Rules.{rules}
-use Prim.Native.Nat.{◌-◌}
 use mathlib.Core.Path.{sym, ◌∙◌}
 use native.Mathlib.Omega.{arith}
-use borrow.Author.Tests.{not-true, not-false}
 use Rattle.lines.proofs.Laws.{line_starts, line_ends}
 use Rattle.placing.proofs.Laws.{placed, refused, sized_kept, length_begin, length_stop, length_on, length_done}
 use Rattle.placing.proofs.place_length.Goals as goal
@@ -29,13 +27,13 @@ pub shape_of-taken-then-not-place_line : goal.shape_of-taken-then-not-place_line
 shape_of-taken-then-not-place_line c = c.place_line.auto.taken ∙ c.loop-at.invariant.2.of_bases ∙ sym c.requires.of_bases
 
 pub returns-then-not-place_line : goal.returns-then-not-place_line
-returns-then-not-place_line c = refused (c.loop-at.invariant.3 ∙ length_stop _ _ _ _ _ _ c.loop-at-test.true c.line_end-end.ensures _ _ c.place_line.ensures (not-true _ c.if-not-place_line.true-raw))
+returns-then-not-place_line c = refused (c.loop-at.invariant.3 ∙ length_stop _ _ _ _ _ _ c.loop-at-test.true c.line_end-end.ensures _ _ c.place_line.ensures c.if-not-place_line.true)
 
 pub loop-at-smaller : goal.loop-at-smaller
 loop-at-smaller c = omega (arith, line_starts _ _ _ c.loop-at-test.true c.line_end-end.ensures)
 
 pub loop-at-preserved : goal.loop-at-preserved
-loop-at-preserved c = (omega (arith, line_starts _ _ _ c.loop-at-test.true c.line_end-end.ensures), line_ends _ _ _ c.loop-at-test.true c.line_end-end.ensures, sized_kept c.loop-at.invariant.2 c.place_line.auto.cells c.place_line.auto.taken, c.loop-at.invariant.3 ∙ length_on _ _ _ _ _ _ c.loop-at-test.true c.line_end-end.ensures _ _ c.place_line.ensures (not-false _ c.if-not-place_line.false-raw))
+loop-at-preserved c = (omega (arith, line_starts _ _ _ c.loop-at-test.true c.line_end-end.ensures), line_ends _ _ _ c.loop-at-test.true c.line_end-end.ensures, sized_kept c.loop-at.invariant.2 c.place_line.auto.cells c.place_line.auto.taken, c.loop-at.invariant.3 ∙ length_on _ _ _ _ _ _ c.loop-at-test.true c.line_end-end.ensures _ _ c.place_line.ensures c.if-not-place_line.false)
 
 pub shape_of-cells : goal.shape_of-cells
 shape_of-cells c = c.loop-at.invariant.2.of_cells ∙ sym c.requires.of_cells

@@ -1,14 +1,13 @@
 use mathlib.Core.Path.{sym, ◌∙◌}
-use borrow.Author.Tests.{not-true, not-false}
 use Rattle.words.specs.Symbols.{symbols_of}
 use Rattle.placing.proofs.Laws.{opens_long, line_kept, line_placed}
 use Rattle.placing.proofs.place_line.Goals as goal
 
 pub returns-then-not-is_opening : goal.returns-then-not-is_opening
-returns-then-not-is_opening c = line_kept _ _ _ (sym c.is_opening.ensures ∙ not-true _ c.if-not-is_opening.true-raw)
+returns-then-not-is_opening c = line_kept _ _ _ (sym c.is_opening.ensures ∙ c.if-not-is_opening.true)
 
 pub place_path-requires : goal.place_path-requires
-place_path-requires c = (c.requires, opens_long _ _ (symbols_of c.args.own.now) (sym c.is_opening.ensures ∙ not-false _ c.if-not-is_opening.false-raw))
+place_path-requires c = (c.requires, opens_long _ _ (symbols_of c.args.own.now) (sym c.is_opening.ensures ∙ c.if-not-is_opening.false))
 
 pub shape_of-cells : goal.shape_of-cells
 shape_of-cells c = c.place_path.auto.cells
@@ -17,4 +16,4 @@ pub shape_of-taken : goal.shape_of-taken
 shape_of-taken c = c.place_path.auto.taken
 
 pub returns : goal.returns
-returns c = line_placed _ _ _ (sym c.is_opening.ensures ∙ not-false _ c.if-not-is_opening.false-raw) c.place_path.ensures
+returns c = line_placed _ _ _ (sym c.is_opening.ensures ∙ c.if-not-is_opening.false) c.place_path.ensures

@@ -1,6 +1,5 @@
 use borrow.Author.Rules.{rules}
 use mathlib.Core.Path.{◌∙◌}
-use borrow.Author.Tests.{not-true, not-false}
 use Rattle.words.specs.Symbols.{symbols_of}
 use Rattle.placing.proofs.Laws.{path_full, path_fits}
 use Rattle.placing.proofs.place_path.Goals as goal
@@ -9,7 +8,7 @@ pub base_for-base-requires : goal.base_for-base-requires
 base_for-base-requires c = (search rules, c.requires.0.of_bases)
 
 pub returns-then-not-is_inside : goal.returns-then-not-is_inside
-returns-then-not-is_inside c = path_full _ _ (symbols_of c.args.own.now) _ c.args.cells.now c.args.taken.now c.mark_next.ensures c.base_for-base.ensures c.is_inside.ensures (not-true _ c.if-not-is_inside.true-raw)
+returns-then-not-is_inside c = path_full _ _ (symbols_of c.args.own.now) _ c.args.cells.now c.args.taken.now c.mark_next.ensures c.base_for-base.ensures c.is_inside.ensures c.if-not-is_inside.true
 
 pub put_cells-requires : goal.put_cells-requires
 put_cells-requires c = (c.requires.0.of_cells, search rules)
@@ -24,4 +23,4 @@ pub shape_of-taken : goal.shape_of-taken
 shape_of-taken c = c.take_base.auto.taken
 
 pub returns : goal.returns
-returns c = path_fits _ _ (symbols_of c.args.own.now) _ c.args.cells.now c.args.taken.now c.mark_next.ensures c.base_for-base.ensures c.is_inside.ensures (not-false _ c.if-not-is_inside.false-raw) c.put_cells.ensures c.put_link.ensures c.take_base.ensures
+returns c = path_fits _ _ (symbols_of c.args.own.now) _ c.args.cells.now c.args.taken.now c.mark_next.ensures c.base_for-base.ensures c.is_inside.ensures c.if-not-is_inside.false c.put_cells.ensures c.put_link.ensures c.take_base.ensures

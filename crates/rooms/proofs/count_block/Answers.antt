@@ -1,5 +1,4 @@
 use borrow.Author.Rules.{rules}
-use Prim.Native.Nat.{◌-◌}
 use native.Mathlib.Omega.{arith}
 use Rattle.rooms.proofs.Laws.{count_zero, count_one, count_end}
 use Rattle.rooms.proofs.count_block.Goals as goal

@@ -1,5 +1,4 @@
 use borrow.Author.Rules.{rules}
-use Prim.Native.Nat.{◌-◌}
 use native.Mathlib.Omega.{arith}
 use Rattle.rooms.proofs.Laws.{marks_start, block_few, marks_turn, marks_end}
 use Rattle.rooms.proofs.count_marks.Goals as goal

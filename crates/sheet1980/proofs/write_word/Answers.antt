@@ -1,5 +1,4 @@
 use mathlib.Core.Path.{sym, ◌∙◌}
-use Prim.Native.Nat.{◌-◌}
 use lib.ListN.{length-set}
 use Rattle.sheet1980.proofs.Laws as law
 use Rattle.sheet1980.proofs.write_word.Goals as goal

@@ -1,4 +1,3 @@
-use Prim.Native.Nat.{◌-◌}
 use mathlib.Core.Path.{refl}
 use Rattle.states.proofs.Laws.{zero_stop, zero_turn, zero_end}
 use Rattle.states.proofs.are_zero.Goals as goal

@@ -1,5 +1,3 @@
-use Prim.Native.Nat.{◌-◌}
-use mathlib.Core.Logic.{⊎_elim}
 use native.Mathlib.Omega.{arith}
 use Rattle.walk.proofs.Laws as law
 use Rattle.walk.proofs.walk_row.Goals as goal

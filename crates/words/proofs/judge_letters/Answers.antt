@@ -1,8 +1,6 @@
 use borrow.Author.Rules.{rules}
-use Prim.Native.Nat.{◌-◌}
 use mathlib.Core.Bool.{false}
 use mathlib.Core.Path.{sym, ◌∙◌}
-use borrow.Author.Tests.{not-true, not-false}
 use Rattle.base.proofs.Grounds.{said_by}
 use Rattle.words.specs.Words.{letters_alone}
 use Rattle.words.proofs.Order.{letters_ordered}
@@ -16,10 +14,10 @@ pub loop-i-init : goal.loop-i-init
 loop-i-init c = (search rules, word_scan letters_alone _ _ c.judge_length-length.ensures c.in_default.is)
 
 pub returns-then-not-is_letter : goal.returns-then-not-is_letter
-returns-then-not-is_letter c = said_by (letters_ordered _ _) (sym (c.loop-i.invariant.1 ∙ letters_stop _ _ c.loop-i-test.true (sym c.is_letter.ensures ∙ not-true _ c.if-not-is_letter.true-raw)))
+returns-then-not-is_letter c = said_by (letters_ordered _ _) (sym (c.loop-i.invariant.1 ∙ letters_stop _ _ c.loop-i-test.true (sym c.is_letter.ensures ∙ c.if-not-is_letter.true)))
 
 pub loop-i-preserved : goal.loop-i-preserved
-loop-i-preserved c = (search rules, c.loop-i.invariant.1 ∙ letters_pass _ _ c.loop-i-test.true (sym c.is_letter.ensures ∙ not-false _ c.if-not-is_letter.false-raw))
+loop-i-preserved c = (search rules, c.loop-i.invariant.1 ∙ letters_pass _ _ c.loop-i-test.true (sym c.is_letter.ensures ∙ c.if-not-is_letter.false))
 
 pub returns : goal.returns
 returns c = said_by (letters_ordered _ _) (sym (c.loop-i.invariant.1 ∙ fit_end letters_alone false _ _ c.loop-i-test.false))

@@ -1,5 +1,4 @@
 use borrow.Author.Rules.{rules}
-use Prim.Native.Nat.{◌-◌}
 use mathlib.Core.Path.{sym, ◌∙◌}
 use Rattle.base.proofs.Grounds.{said_by}
 use Rattle.words.specs.Words.{with_apostrophes}

@@ -1,5 +1,4 @@
 use borrow.Author.Rules.{rules}
-use Prim.Native.Nat.{◌-◌}
 use Rattle.writing.proofs.Laws.{word_fits, word_step, word_end}
 use Rattle.writing.proofs.Going.{go_start, go_end}
 use Rattle.writing.proofs.put_hyphenated.Goals as goal

@@ -1,5 +1,4 @@
 use borrow.Author.Rules.{rules}
-use Prim.Native.Nat.{◌-◌}
 use lib.ListN.{drop_of_length-le}
 use Rattle.writing.proofs.Laws.{text_fits, text_step}
 use Rattle.writing.proofs.Going.{go_start, go_end}
