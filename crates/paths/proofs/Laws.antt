@@ -10,9 +10,8 @@ use lib.ListN.{length, get_or, take, drop, set, replicate, length-replicate, dro
 use lib.Seq.{sets, length-sets, length-take-le, get_or-set_same}
 use Rattle.base.proofs.Lists.{cons_at}
 use Rattle.io.specs.Counts.{IsPrefixLen}
-use Rattle.libc.specs.Io.{Ended}
 use Rattle.writing.specs.Put.{Put}
-use Rattle.paths.specs.Paths.{slash, path_limit, no_zero, is_path, last_slash, folder_size, link_start, name_end, name_room, ended_path, Named, fresh_mark, letter_by, fresh_name}
+use Rattle.paths.specs.Paths.{slash, path_limit, no_zero, is_path, last_slash, folder_size, link_start, name_end, name_room, ended_path, Ended, Named, fresh_mark, letter_by, fresh_name}
 
 pub counts : (n : ℕ) (bytes : List ℕ) → n ≤ length bytes → IsPrefixLen n bytes
 counts n bytes h = (h, sym (length-take-le n bytes h))

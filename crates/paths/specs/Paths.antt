@@ -20,6 +20,10 @@ no_zero (b ∷ bytes) = cond (eqb b 0) false (no_zero bytes)
 unfoldable pub is_path : List ℕ → Bool
 is_path path = ltb (length path) path_limit && no_zero path
 
+-- The last byte is 0, so that C's read of a path ends inside of it.
+abbrev pub Ended : List ℕ → Type 0
+Ended bytes = get_or bytes (path_limit - 1) 1 ≡ 0
+
 -- What C reads of some bytes: those before the first 0.
 unfoldable pub read : List ℕ → List ℕ
 read [] = []

@@ -1,10 +1,12 @@
 // Names of files, put together in lent memory.
+#![tactic(auto)]
+
 ghost use Rattle.std.specs.Prelude.{◌≡◌};
 ghost use Rattle.io.specs.Counts.{IsPrefixLen};
-ghost use Rattle.libc.specs.Io.{Ended};
-ghost use Rattle.paths.specs.Paths.{is_path, folder_size, folder, link_start, name_room, Named, ended_path, fresh_name};
+ghost use Rattle.paths.specs.Paths.{is_path, folder_size, folder, link_start, name_room, Named, Ended, ended_path, fresh_name};
 
-use libc::PATH_MAX;
+// The most bytes of a path for C, with the 0 that ends it.
+pub const PATH_MAX: usize = 4096;
 
 const SLASH: u8 = 47;
 
