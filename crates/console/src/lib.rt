@@ -1,7 +1,22 @@
 // What the programs share: files that arguments name, and the line of a refusal.
-ghost use Rattle.std.specs.Prelude.{◌≤◌, length};
+#![tactic(auto)]
+
+ghost use Rattle.std.specs.Prelude.{◌≤◌, length, IfOk};
 
 use base::Ground;
+use paths::PATH_MAX;
+use std::env::FillError;
+use std::fmt::InlineText;
+use std::fs::File;
+use std::io::{Error, Read as _, Result};
+use std::rt::Env;
+
+// Where a line goes: to standard output or to standard error.
+#[derive(Clone, Copy)]
+pub enum Stream {
+    Output,
+    Errors,
+}
 
 // What came of reading a file: whether it could be opened and read, and how many bytes of it are in the buffer.
 #[derive(Clone, Copy)]
@@ -10,119 +25,158 @@ pub struct Read {
     pub size: usize,
 }
 
+// The system's numbers for an argument that is missing, and for one that doesn't fit.
+const INVALID: i32 = 22;
+
+const NAME_TOO_LONG: i32 = 36;
+
+// The system's words for an error and its number behind them have fewer bytes.
+const REASON_LIMIT: usize = 128;
+
 // Reads once.
-fn read_some(file: i32, part: &mut [u8]) -> Read
-    ensures { result.size ≤ length part.new }
+fn read_some(file: &mut File, part: &mut [u8]) -> Result<usize>
+    ensures { IfOk result (λ size. size ≤ length part.new) }
 {
-    let got = libc::read(file, part);
-    if got < 0 {
-        return Read {
-            done: false,
-            size: 0,
-        };
-    }
-    let n = io::count(got, part);
-    Read {
-        done: true,
-        size: n,
-    }
+    file.read(part)
 }
 
 // Reads until the file ends or the buffer is full. Each turn but the last reads at least a byte, so that as many turns as there are
 // bytes are enough.
-fn read_all(file: i32, bytes: &mut [u8]) -> Read
-    ensures { result.size ≤ length bytes.new }
+fn read_all(file: &mut File, bytes: &mut [u8]) -> Result<usize>
+    ensures { IfOk result (λ size. size ≤ length bytes.new) }
 {
     let mut size = 0;
     let mut turns = bytes.len();
     while turns > 0 {
         turns -= 1;
-        let more = read_some(file, &mut bytes[size..]);
-        if !more.done {
-            return Read {
-                done: false,
-                size: 0,
-            };
-        }
-        size += more.size;
-        if more.size == 0 {
+        let more = read_some(file, &mut bytes[size..])?;
+        size += more;
+        if more == 0 {
             turns = 0;
         }
     }
-    Read {
-        done: true,
-        size: size,
-    }
+    Ok(size)
 }
 
-// The bytes of the file at a path, as many as the buffer takes. Where it can't be opened or read, errno says why.
-fn read_file(path: &[u8], bytes: &mut [u8]) -> Read
-    ensures { result.size ≤ length bytes.new }
+// The bytes of the file at a path, as many as the buffer takes. Where it can't be opened or read, the error says why.
+fn read_file(rt: &HostRuntime, path: &[u8], bytes: &mut [u8]) -> Result<usize>
+    ensures { IfOk result (λ size. size ≤ length bytes.new) }
 {
-    let file = os::open_read(path);
-    if file < 0 {
-        return Read {
-            done: false,
-            size: 0,
-        };
-    }
-    let read = read_all(file, bytes);
-    libc::close(file);
-    read
+    let mut file = File::open(rt, paths::as_text(path)?)?;
+    read_all(&mut file, bytes)
 }
 
-// Tells on standard error what a program could not use, and why, by errno.
-pub fn tell(program: &[u8], what: &[u8]) {
-    io::write_all(libc::STDERR_FILENO, program);
-    io::write_all(libc::STDERR_FILENO, b": ");
-    os::fail(what);
+// Writes to standard error. Where that can't be written either, nobody is left to be told.
+pub fn complain(rt: &HostRuntime, bytes: &[u8]) {
+    let _ = rt.stderr().write_all(bytes);
+}
+
+// The system's words for an error, without the number that stands behind them.
+fn words_of(reason: &str) -> &str {
+    match reason.split_once(" (os error ") {
+        Some((words, _)) => words,
+        None => reason,
+    }
+}
+
+// Tells on standard error what a program could not use, and why.
+pub fn tell(rt: &HostRuntime, program: &[u8], what: &[u8], error: Error) {
+    let reason = InlineText::<REASON_LIMIT>::of(error);
+    complain(rt, program);
+    complain(rt, b": ");
+    complain(rt, what);
+    complain(rt, b": ");
+    complain(rt, words_of(reason.as_str()).as_bytes());
+    complain(rt, b"\n");
+}
+
+// Is there an argument i? Argument 0 is the program's own name.
+pub fn has_argument(rt: &HostRuntime, i: usize) -> bool {
+    !matches!(rt.arg(i, &mut []), Err(FillError::NotPresent))
+}
+
+// Puts argument i into a room.
+pub fn put_argument(rt: &HostRuntime, i: usize, room: &mut [u8]) -> Result<usize>
+    ensures { IfOk result (λ size. size ≤ length room.new) }
+{
+    match rt.arg(i, room) {
+        Ok(size) => Ok(size),
+        Err(FillError::TooLong) => Err(Error::from_raw_os_error(NAME_TOO_LONG)),
+        Err(FillError::NotPresent) => Err(Error::from_raw_os_error(INVALID)),
+    }
 }
 
 // The bytes of the file that argument i names, as many as the buffer takes. A missing argument is a file that can't be opened. Where the
 // file can't be used, a program that tells says why: document 01 lets `hyphenate` write "! 0 0" there and nothing else.
-pub fn read_argument(program: &[u8], tells: bool, i: usize, bytes: &mut [u8]) -> Read
+pub fn read_argument(
+    rt: &HostRuntime,
+    program: &[u8],
+    tells: bool,
+    i: usize,
+    bytes: &mut [u8],
+) -> Read
     ensures { result.size ≤ length bytes.new }
 {
-    let mut path = io::buffer();
-    let n = os::arg(i, &mut path);
-    if os::errno() != 0 {
-        if tells {
-            tell(program, b"a name");
+    let undone = Read {
+        done: false,
+        size: 0,
+    };
+    let mut path = [0u8; PATH_MAX];
+    let n = match put_argument(rt, i, &mut path) {
+        Ok(n) => n,
+        Err(e) => {
+            if tells {
+                tell(rt, program, b"a name", e);
+            }
+            return undone;
         }
-        return Read {
-            done: false,
-            size: 0,
-        };
+    };
+    match read_file(rt, &path[..n], bytes) {
+        Ok(size) => Read {
+            done: true,
+            size: size,
+        },
+        Err(e) => {
+            if tells {
+                tell(rt, program, &path[..n], e);
+            }
+            undone
+        }
     }
-    let read = read_file(&path[..n], bytes);
-    if tells && !read.done {
-        tell(program, &path[..n]);
-    }
-    read
 }
 
 // Is argument i an option? These programs have none, so that a name that begins with a hyphen is taken for a slip; "./-x" is a file.
-pub fn is_option(i: usize) -> bool {
-    let mut name = io::buffer();
-    let n = os::arg(i, &mut name);
-    n > 0 && name[0] == words::HYPHEN
+pub fn is_option(rt: &HostRuntime, i: usize) -> bool {
+    let mut name = [0u8; PATH_MAX];
+    match put_argument(rt, i, &mut name) {
+        Ok(n) => n > 0 && name[0] == words::HYPHEN,
+        Err(_) => false,
+    }
+}
+
+// All bytes to a stream.
+pub fn write(rt: &HostRuntime, out: Stream, bytes: &[u8]) -> Result<()> {
+    match out {
+        Stream::Output => rt.stdout().write_all(bytes),
+        Stream::Errors => rt.stderr().write_all(bytes),
+    }
 }
 
 // Writes a line. Where it can't be written, that is told.
-pub fn print(program: &[u8], out: i32, line: &[u8]) {
-    if !io::write_all(out, line) {
-        tell(program, b"standard output");
+pub fn print(rt: &HostRuntime, program: &[u8], out: Stream, line: &[u8]) {
+    if let Err(e) = write(rt, out, line) {
+        tell(rt, program, b"standard output", e);
     }
 }
 
 // A list, a table or a packing is refused: "!", number and place.
-pub fn print_refusal(program: &[u8], out: i32, ground: Ground) {
+pub fn print_refusal(rt: &HostRuntime, program: &[u8], out: Stream, ground: Ground) {
     let mut line = [0u8; report::LINE_LIMIT];
     let end = report::put_refusal(writing::EXCLAMATION, ground, &mut line, 0);
-    print(program, out, &line[0..end]);
+    print(rt, program, out, &line[0..end]);
 }
 
 // Nothing was done, and no ground says why: a file can't be opened, read or written, or the arguments are wrong.
-pub fn print_undone(program: &[u8], out: i32) {
-    print(program, out, b"! 0 0\n");
+pub fn print_undone(rt: &HostRuntime, program: &[u8], out: Stream) {
+    print(rt, program, out, b"! 0 0\n");
 }

@@ -1,10 +1,19 @@
 // A file that is replaced whole or not at all: its new bytes go to a file of another name in the same folder, and only when all of them
 // are on the disk does that one take the name. No contract can speak of files; the order of the steps is what tests/programs sees.
+#![tactic(auto)]
+
 mod status;
 
+ghost use Rattle.std.specs.Prelude.{IfOk};
 ghost use Rattle.io.specs.Counts.{IsPrefixLen};
 
+use paths::PATH_MAX;
 use status::Status;
+use std::fs;
+use std::fs::{File, OpenOptions, Permissions};
+use std::io::{Error, ErrorKind, Result, Write};
+use std::os::unix::fs::{PermissionsExt, fchown};
+use std::random::RandomSource;
 
 // The bytes of a fresh name: 11 that say whose file it is where a killed run left it, and 8 letters, which another run has only by
 // chance.
@@ -13,123 +22,168 @@ const NAME_SIZE: usize = 19;
 // More links than any path goes through.
 const LINK_LIMIT: usize = 64;
 
+// The kind of a file in its mode, and a regular file's.
+const KINDS: u32 = 0o170000;
+
+const REGULAR: u32 = 0o100000;
+
 // The rights of a file are what its mode leaves when divided by this: nine bits.
 const RIGHTS: u32 = 512;
 
+// The system's numbers for what isn't allowed, what isn't there, and what is no text.
+const NOT_PERMITTED: i32 = 1;
+
+const NOT_FOUND: i32 = 2;
+
+const NO_TEXT: i32 = 84;
+
 fn is_regular(file: Status) -> bool {
-    file.mode & libc::S_IFMT == libc::S_IFREG
+    file.mode & KINDS == REGULAR
 }
 
 // Do two names stand for one file?
-pub fn is_same(a: &[u8], b: &[u8]) -> bool {
-    let first = status::status_of(a);
-    let second = status::status_of(b);
+pub fn is_same(rt: &HostRuntime, a: &[u8], b: &[u8]) -> bool {
+    let first = status::status_of(rt, a);
+    let second = status::status_of(rt, b);
     first.found && second.found && first.device == second.device && first.number == second.number
 }
 
 // Bytes to whatever has the name: a pipe or a device.
-fn write_through(path: &[u8], bytes: &[u8]) -> bool {
-    let file = os::open_overwrite(path);
-    if file < 0 {
-        return false;
-    }
-    let written = io::write_all(file, bytes);
-    let closed = libc::close(file) == 0;
-    written && closed
+fn write_through(rt: &HostRuntime, path: &[u8], bytes: &[u8]) -> Result<()> {
+    let mut file = File::create(rt, paths::as_text(path)?)?;
+    file.write_all(bytes)
 }
 
 // May the file be written? It isn't: its bytes stay. A name's folder alone says whether it may be given to another file, and somebody
 // who took the right to write from a table meant it.
-fn is_writable(path: &[u8]) -> bool {
-    let file = os::open_append(path);
-    if file < 0 {
-        return false;
-    }
-    libc::close(file) == 0
+fn check_writable(rt: &HostRuntime, path: &[u8]) -> Result<()> {
+    OpenOptions::new()
+        .append(true)
+        .open(rt, paths::as_text(path)?)?;
+    Ok(())
 }
 
 // The new file is read and written by whom the old one was. Another's file can't be given back to its owner by just anyone.
-fn keep_rights(file: i32, old: Status) -> bool {
+fn keep_rights(file: &File, old: Status) -> Result<()> {
     if !old.found {
-        return true;
+        return Ok(());
     }
-    if libc::fchown(file, old.owner, old.group) != 0 && os::errno() != libc::EPERM {
-        return false;
+    if let Err(e) = fchown(file, Some(old.owner), Some(old.group)) {
+        if e.raw_os_error() != Some(NOT_PERMITTED) {
+            return Err(e);
+        }
     }
-    libc::fchmod(file, old.mode % RIGHTS) == 0
+    file.set_permissions(Permissions::from_mode(old.mode % RIGHTS))
 }
 
 // All bytes of the new file, on the disk.
-fn fill(file: i32, bytes: &[u8], old: Status) -> bool {
-    io::write_all(file, bytes) && keep_rights(file, old) && libc::fsync(file) == 0
+fn fill(file: &mut File, bytes: &[u8], old: Status) -> Result<()> {
+    file.write_all(bytes)?;
+    keep_rights(file, old)?;
+    file.sync_all()
 }
 
 // A new file and its name's size.
-#[derive(Clone, Copy)]
+#[derive(Drop)]
 struct Made {
-    file: i32,
+    file: Result<File>,
     size: usize,
 }
 
+// Makes a file that isn't there yet.
+fn create(rt: &HostRuntime, path: &[u8]) -> Result<File> {
+    OpenOptions::new()
+        .write(true)
+        .create_new(true)
+        .open(rt, paths::as_text(path)?)
+}
+
 // Makes a file in the folder of a path, and puts its name into a room.
-fn make_beside(path: &[u8], room: &mut [u8]) -> Made
+fn make_beside(rt: &HostRuntime, path: &[u8], room: &mut [u8]) -> Made
     ensures { IsPrefixLen result.size room.new }
 {
     let mut name = [0u8; NAME_SIZE];
-    if libc::getentropy(&mut name) != 0 {
-        return Made { file: -1, size: 0 };
+    if let Err(e) = rt.fill_bytes(&mut name) {
+        return Made {
+            file: Err(e),
+            size: 0,
+        };
     }
     paths::put_fresh(&mut name);
     let size = paths::put_beside(path, &name, room);
     Made {
-        file: os::create(&room[..size]),
+        file: create(rt, &room[..size]),
         size: size,
     }
 }
 
+// Opens a file or a folder for reading.
+fn open_read(rt: &HostRuntime, path: &[u8]) -> Result<File> {
+    File::open(rt, paths::as_text(path)?)
+}
+
 // The new name is on the disk too. The file stands by then: where its folder can't be flushed, a power cut brings the old one back,
 // and that one is whole.
-fn flush_folder(path: &[u8]) {
-    let mut name = io::buffer();
+fn flush_folder(rt: &HostRuntime, path: &[u8]) {
+    let mut name = [0u8; PATH_MAX];
     let size = paths::put_beside(path, b".", &mut name);
-    let folder = os::open_read(&name[..size]);
-    if folder >= 0 {
-        libc::fsync(folder);
-        libc::close(folder);
+    if let Ok(folder) = open_read(rt, &name[..size]) {
+        let _ = folder.sync_all();
     }
+}
+
+fn rename(rt: &HostRuntime, from: &[u8], to: &[u8]) -> Result<()> {
+    fs::rename(rt, paths::as_text(from)?, paths::as_text(to)?)
+}
+
+fn unlink(rt: &HostRuntime, path: &[u8]) -> Result<()> {
+    fs::remove_file(rt, paths::as_text(path)?)
+}
+
+// The new file is filled and closed, and then takes the name.
+fn take_name(
+    rt: &HostRuntime,
+    made: File,
+    name: &[u8],
+    path: &[u8],
+    bytes: &[u8],
+    old: Status,
+) -> Result<()> {
+    let mut file = made;
+    fill(&mut file, bytes, old)?;
+    drop(file);
+    rename(rt, name, path)
 }
 
 // Replaces a file, or makes it where there is none. Whatever fails, the old one stays and the new one is removed.
-fn replace(path: &[u8], bytes: &[u8], old: Status) -> bool {
-    if old.found && !is_writable(path) {
-        return false;
+fn replace(rt: &HostRuntime, path: &[u8], bytes: &[u8], old: Status) -> Result<()> {
+    if old.found {
+        check_writable(rt, path)?;
     }
-    let mut name = io::buffer();
-    let made = make_beside(path, &mut name);
-    if made.file < 0 {
-        return false;
+    let mut name = [0u8; PATH_MAX];
+    let Made { file, size } = make_beside(rt, path, &mut name);
+    match take_name(rt, file?, &name[..size], path, bytes, old) {
+        Ok(()) => {
+            flush_folder(rt, path);
+            Ok(())
+        }
+        Err(e) => {
+            unlink(rt, &name[..size])?;
+            Err(e)
+        }
     }
-    let n = made.size;
-    let filled = fill(made.file, bytes, old);
-    let closed = libc::close(made.file) == 0;
-    if filled && closed && os::rename(&name[..n], path) == 0 {
-        flush_folder(path);
-        return true;
-    }
-    os::unlink(&name[..n]);
-    false
 }
 
-// The text of a link, none where the name is no link's.
-fn read_link(path: &[u8], text: &mut [u8]) -> usize
-    ensures { IsPrefixLen result text.new }
+// The text of a link, none where the name is no link's. A link whose text can't be had is an error, since the link must stay.
+fn read_link(rt: &HostRuntime, path: &[u8], text: &mut [u8]) -> Result<usize>
+    ensures { IfOk result (λ size. IsPrefixLen size text.new) }
 {
-    if !paths::is_path(path) {
-        return 0;
+    match fs::read_link(rt, paths::as_text(path)?) {
+        Ok(link) => Ok(paths::put_name(link.as_str().as_bytes(), text, 0)),
+        Err(e) if e.kind() == ErrorKind::InvalidFilename => Err(Error::from_raw_os_error(NO_TEXT)),
+        Err(e) if e.kind() == ErrorKind::OutOfMemory => Err(e),
+        Err(_) => Ok(0),
     }
-    let name = paths::ended(path);
-    let got = libc::readlink(&name, text);
-    io::count(got, text)
 }
 
 // A path in a room, and whether a link was followed to it.
@@ -140,63 +194,62 @@ struct Followed {
 }
 
 // Follows one link.
-fn follow_once(room: &mut [u8], size: usize) -> Followed
+fn follow_once(rt: &HostRuntime, room: &mut [u8], size: usize) -> Result<Followed>
     requires { IsPrefixLen size room.old }
-    ensures { IsPrefixLen result.size room.new }
+    ensures { IfOk result (λ next. IsPrefixLen next.size room.new) }
 {
-    let mut text = io::buffer();
-    let n = read_link(&room[..size], &mut text);
+    let mut text = [0u8; PATH_MAX];
+    let n = read_link(rt, &room[..size], &mut text)?;
     if n == 0 {
-        return Followed {
+        return Ok(Followed {
             size: size,
             linked: false,
-        };
+        });
     }
     let at = paths::link_start(&room[..size], &text[..n]);
-    Followed {
+    Ok(Followed {
         size: paths::put_name(&text[..n], room, at),
         linked: true,
-    }
+    })
 }
 
 // Puts into a room the path that a name stands for, where the last of its links leads: there the file is replaced, and the links stay.
-fn follow(path: &[u8], room: &mut [u8]) -> usize
-    ensures { IsPrefixLen result room.new }
+fn follow(rt: &HostRuntime, path: &[u8], room: &mut [u8]) -> Result<usize>
+    ensures { IfOk result (λ size. IsPrefixLen size room.new) }
 {
     let mut size = paths::put_name(path, room, 0);
     let mut turns = LINK_LIMIT;
     while turns > 0 {
         turns -= 1;
-        let next = follow_once(room, size);
+        let next = follow_once(rt, room, size)?;
         size = next.size;
         if !next.linked {
             turns = 0;
         }
     }
-    size
+    Ok(size)
 }
 
-// Does nothing stand under the name, so that a file can be made there? Where the system can't say so, errno tells why.
-fn is_free(path: &[u8]) -> bool {
-    let file = os::open_read(path);
-    if file < 0 {
-        return os::errno() == libc::ENOENT;
+// Nothing may stand under the name, so that a file can be made there. Where the system can't say so, the error tells why.
+fn check_free(rt: &HostRuntime, path: &[u8]) -> Result<()> {
+    match open_read(rt, path) {
+        Ok(_) => Err(Error::from_raw_os_error(NOT_FOUND)),
+        Err(e) if e.raw_os_error() == Some(NOT_FOUND) => Ok(()),
+        Err(e) => Err(e),
     }
-    libc::close(file);
-    false
 }
 
-// Bytes into the file of a name: a regular file is replaced, whatever else has the name is written through. Where it fails, errno says
-// why.
-pub fn save(path: &[u8], bytes: &[u8]) -> bool {
-    let old = status::status_of(path);
-    if !old.found && !is_free(path) {
-        return false;
+// Bytes into the file of a name: a regular file is replaced, whatever else has the name is written through. Where it fails, the error
+// says why.
+pub fn save(rt: &HostRuntime, path: &[u8], bytes: &[u8]) -> Result<()> {
+    let old = status::status_of(rt, path);
+    if !old.found {
+        check_free(rt, path)?;
     }
     if old.found && !is_regular(old) {
-        return write_through(path, bytes);
+        return write_through(rt, path, bytes);
     }
-    let mut room = io::buffer();
-    let n = follow(path, &mut room);
-    replace(&room[..n], bytes, old)
+    let mut room = [0u8; PATH_MAX];
+    let n = follow(rt, path, &mut room)?;
+    replace(rt, &room[..n], bytes, old)
 }

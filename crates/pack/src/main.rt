@@ -1,96 +1,122 @@
 // Packs a pattern list. Its arguments are the pattern file and, if the table is not to go to standard output, the table file, which is
 // replaced whole or not at all. A refusal goes to standard output, or to standard error where the table would have gone there; what the
 // system refused, and how the program is called, it tells on standard error.
+#![tactic(auto)]
+
+use console::Stream;
 use packer::Packing;
+use paths::PATH_MAX;
 
 // How many arguments there are at most, the program's name included: with so many, the last is the table file.
 const ARGUMENTS: usize = 3;
 
+// A table's room.
+const ROOM: usize = 65536;
+
+// Does the last argument name a table file?
+fn has_table(rt: &HostRuntime) -> bool {
+    console::has_argument(rt, ARGUMENTS - 1)
+}
+
 // Where a refusal can't be taken for a table.
-fn refusals() -> i32 {
-    if os::arg_count() < ARGUMENTS {
-        return libc::STDERR_FILENO;
+fn refusals(rt: &HostRuntime) -> Stream {
+    if has_table(rt) {
+        return Stream::Output;
     }
-    libc::STDOUT_FILENO
+    Stream::Errors
 }
 
-fn print_table(table: &[u8]) -> bool {
-    if io::write_all(libc::STDOUT_FILENO, table) {
-        return true;
+fn print_table(rt: &HostRuntime, table: &[u8]) -> bool {
+    match console::write(rt, Stream::Output, table) {
+        Ok(()) => true,
+        Err(e) => {
+            console::tell(rt, b"pack", b"standard output", e);
+            false
+        }
     }
-    console::tell(b"pack", b"standard output");
-    false
 }
 
-fn tell_same(path: &[u8]) {
-    io::write_all(libc::STDERR_FILENO, b"pack: ");
-    io::write_all(libc::STDERR_FILENO, path);
-    io::write_all(libc::STDERR_FILENO, b": it is the list itself\n");
+fn tell_same(rt: &HostRuntime, path: &[u8]) {
+    console::complain(rt, b"pack: ");
+    console::complain(rt, path);
+    console::complain(rt, b": it is the list itself\n");
+}
+
+// Does a path name the list?
+fn is_list(rt: &HostRuntime, path: &[u8]) -> bool {
+    let mut list = [0u8; PATH_MAX];
+    match console::put_argument(rt, 1, &mut list) {
+        Ok(n) => files::is_same(rt, &list[..n], path),
+        Err(_) => false,
+    }
 }
 
 // The table into the file that the second argument names, unless that is the list.
-fn save_table(table: &[u8]) -> bool {
-    let mut list = io::buffer();
-    let l = os::arg(1, &mut list);
-    let mut path = io::buffer();
-    let n = os::arg(2, &mut path);
-    if os::errno() != 0 {
-        console::tell(b"pack", b"a name");
+fn save_table(rt: &HostRuntime, table: &[u8]) -> bool {
+    let mut path = [0u8; PATH_MAX];
+    let n = match console::put_argument(rt, 2, &mut path) {
+        Ok(n) => n,
+        Err(e) => {
+            console::tell(rt, b"pack", b"a name", e);
+            return false;
+        }
+    };
+    if is_list(rt, &path[..n]) {
+        tell_same(rt, &path[..n]);
         return false;
     }
-    if files::is_same(&list[..l], &path[..n]) {
-        tell_same(&path[..n]);
-        return false;
+    match files::save(rt, &path[..n], table) {
+        Ok(()) => true,
+        Err(e) => {
+            console::tell(rt, b"pack", &path[..n], e);
+            false
+        }
     }
-    if files::save(&path[..n], table) {
-        return true;
-    }
-    console::tell(b"pack", &path[..n]);
-    false
 }
 
 // The table to where it belongs. Answers whether all of it is there; where not, that was told.
-fn put_table(table: &[u8]) -> bool {
-    if os::arg_count() < ARGUMENTS {
-        return print_table(table);
+fn put_table(rt: &HostRuntime, table: &[u8]) -> bool {
+    if has_table(rt) {
+        return save_table(rt, table);
     }
-    save_table(table)
+    print_table(rt, table)
 }
 
-fn run(patterns: &[u8]) {
-    let mut room = io::large_buffer();
+fn run(rt: &HostRuntime, patterns: &[u8]) {
+    let mut room = [0u8; ROOM];
     let packing = packer::pack(patterns, &mut room);
     if let Packing::Refused(g) = packing {
-        console::print_refusal(b"pack", refusals(), g);
+        console::print_refusal(rt, b"pack", refusals(rt), g);
         return;
     }
     if let Packing::Done(size) = packing {
         if size <= room.len() {
-            if !put_table(&room[0..size]) {
-                console::print_undone(b"pack", refusals());
+            if !put_table(rt, &room[0..size]) {
+                console::print_undone(rt, b"pack", refusals(rt));
             }
         }
     }
 }
 
 // The file is read with room for one byte more than its limit, so that a longer one is told from one that has just as many.
-fn pack_file() {
+fn pack_file(rt: &HostRuntime) {
     let mut patterns = [0u8; base::PATTERN_TEXT + 1];
-    let read = console::read_argument(b"pack", true, 1, &mut patterns);
+    let read = console::read_argument(rt, b"pack", true, 1, &mut patterns);
     if !read.done {
-        console::print_undone(b"pack", refusals());
+        console::print_undone(rt, b"pack", refusals(rt));
         return;
     }
     let n = read.size;
-    run(&patterns[0..n]);
+    run(rt, &patterns[0..n]);
 }
 
-fn main() {
-    let count = os::arg_count();
-    if count < 2 || count > ARGUMENTS || console::is_option(1) || console::is_option(2) {
-        io::write_all(libc::STDERR_FILENO, b"usage: pack LIST [TABLE]\n");
-        console::print_undone(b"pack", libc::STDOUT_FILENO);
+fn main(rt: HostRuntime) {
+    let listed = console::has_argument(&rt, 1);
+    let more = console::has_argument(&rt, ARGUMENTS);
+    if !listed || more || console::is_option(&rt, 1) || console::is_option(&rt, 2) {
+        console::complain(&rt, b"usage: pack LIST [TABLE]\n");
+        console::print_undone(&rt, b"pack", Stream::Output);
         return;
     }
-    pack_file();
+    pack_file(&rt);
 }

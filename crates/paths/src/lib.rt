@@ -1,9 +1,18 @@
 // Names of files, put together in lent memory.
 #![tactic(auto)]
 
-ghost use Rattle.std.specs.Prelude.{◌≡◌};
+ghost use Rattle.std.specs.Prelude.{◌≡◌, true, IfOk};
 ghost use Rattle.io.specs.Counts.{IsPrefixLen};
 ghost use Rattle.paths.specs.Paths.{is_path, folder_size, folder, link_start, name_room, Named, Ended, ended_path, fresh_name};
+
+use std::io::{Error, Result};
+
+// The system's numbers for a path that it can't be handed: it is too long, or it has a 0 or no text in it.
+const NAME_TOO_LONG: i32 = 36;
+
+const INVALID: i32 = 22;
+
+const NO_TEXT: i32 = 84;
 
 // The most bytes of a path for C, with the 0 that ends it.
 pub const PATH_MAX: usize = 4096;
@@ -28,6 +37,22 @@ pub fn is_path(path: &[u8]) -> bool
         i += 1;
     }
     true
+}
+
+// A path as the standard library takes it: all of it, and text. Any other is an error, whose reason is the one that the system has.
+pub fn as_text(path: &[u8]) -> Result<&str>
+    ensures { IfOk result (λ text. (text.now ≡ path.now) × (is_path path.now ≡ true)) }
+{
+    if path.len() > LAST {
+        return Err(Error::from_raw_os_error(NAME_TOO_LONG));
+    }
+    if !is_path(path) {
+        return Err(Error::from_raw_os_error(INVALID));
+    }
+    match std::str::from_utf8(path) {
+        Ok(text) => Ok(text),
+        Err(_) => Err(Error::from_raw_os_error(NO_TEXT)),
+    }
 }
 
 // How many bytes of a path name its folder.
