@@ -1,5 +1,4 @@
 -- The path lies in its room; the turns left fall.
-use Rattle.std.proofs.Common.{ℕ}
 use Rattle.io.specs.Counts.{IsPrefixLen}
 use Rattle.files.proofs.follow.Given as goal
 
