@@ -230,26 +230,32 @@ fn follow(rt: &HostRuntime, path: &[u8], room: &mut [u8]) -> Result<usize>
     Ok(size)
 }
 
-// Nothing may stand under the name, so that a file can be made there. Where the system can't say so, the error tells why.
-fn check_free(rt: &HostRuntime, path: &[u8]) -> Result<()> {
+// Nothing may stand under the name, so that a file can be made there. Where the system can't say so, the error tells why, and where it
+// opens what it would say nothing of, the error is `silence`.
+fn check_free(rt: &HostRuntime, path: &[u8], silence: Error) -> Result<()> {
     match open_read(rt, path) {
-        Ok(_) => Err(Error::from_raw_os_error(NOT_FOUND)),
+        Ok(_) => Err(silence),
         Err(e) if e.raw_os_error() == Some(NOT_FOUND) => Ok(()),
         Err(e) => Err(e),
     }
 }
 
-// Bytes into the file of a name: a regular file is replaced, whatever else has the name is written through. Where it fails, the error
-// says why.
-pub fn save(rt: &HostRuntime, path: &[u8], bytes: &[u8]) -> Result<()> {
-    let old = status::status_of(rt, path);
-    if !old.found {
-        check_free(rt, path)?;
-    }
-    if old.found && !is_regular(old) {
-        return write_through(rt, path, bytes);
-    }
+// Replaces the file that a name's links lead to, or makes it.
+fn replace_linked(rt: &HostRuntime, path: &[u8], bytes: &[u8], old: Status) -> Result<()> {
     let mut room = [0u8; PATH_MAX];
     let n = follow(rt, path, &mut room)?;
     replace(rt, &room[..n], bytes, old)
+}
+
+// Bytes into the file of a name: a regular file is replaced, whatever else has the name is written through. Where it fails, the error
+// says why.
+pub fn save(rt: &HostRuntime, path: &[u8], bytes: &[u8]) -> Result<()> {
+    match status::find(rt, path) {
+        Ok(old) if !is_regular(old) => write_through(rt, path, bytes),
+        Ok(old) => replace_linked(rt, path, bytes, old),
+        Err(e) => {
+            check_free(rt, path, e)?;
+            replace_linked(rt, path, bytes, status::absent())
+        }
+    }
 }

@@ -18,10 +18,16 @@ pub struct Status {
 
 // Links are followed. Under a path that the system cannot be handed whole, nothing is found.
 pub fn status_of(rt: &HostRuntime, path: &[u8]) -> Status {
-    match ask(rt, path) {
-        Ok(asked) => told(&asked),
+    match find(rt, path) {
+        Ok(found) => found,
         Err(_) => absent(),
     }
+}
+
+// The same of a file that is found. Where none is, the error says why.
+pub fn find(rt: &HostRuntime, path: &[u8]) -> Result<Status> {
+    let asked = ask(rt, path)?;
+    Ok(told(&asked))
 }
 
 // What the system answers.
@@ -40,7 +46,7 @@ fn told(asked: &Metadata) -> Status {
     }
 }
 
-fn absent() -> Status {
+pub fn absent() -> Status {
     Status {
         found: false,
         mode: 0,

@@ -2,6 +2,8 @@
 // exception lines, of CR 2, which break fits, and of CR 5, apostrophes. Each line of the output is a sample and what it is told: number, list and place, all 0
 // where nothing is refused; the line that is shown for a word; behind word and margins the number of breaks, the count and the gaps that
 // break; or, behind a word and the line in words, what came out and the gap, a refusal as "?", number and place.
+#![tactic(auto)]
+
 use base::Check;
 use gauge::{Fitting, Gauge};
 use hyphenation::Answer;
