@@ -1,4 +1,4 @@
-use Rattle.std.proofs.Common.{◌-◌, refl, rules}
+use Rattle.std.proofs.Common.{refl, rules}
 use Rattle.hyphenate.proofs.take_piece.Goals as goal
 
 pub loop-i-init : goal.loop-i-init

@@ -1,5 +1,4 @@
 use borrow.Author.Rules.{rules}
-use Prim.Native.Nat.{◌-◌}
 use native.Mathlib.Omega.{arith}
 use Rattle.paths.proofs.Laws.{letter_start, letter_turn, letter_end}
 use Rattle.paths.proofs.put_fresh.Goals as goal
