@@ -230,11 +230,11 @@ fn follow(rt: &HostRuntime, path: &[u8], room: &mut [u8]) -> Result<usize>
     Ok(size)
 }
 
-// Nothing may stand under the name, so that a file can be made there. Where the system can't say so, the error tells why, and where it
-// opens what it would say nothing of, the error is `silence`.
-fn check_free(rt: &HostRuntime, path: &[u8], silence: Error) -> Result<()> {
+// Nothing may stand under the name, so that a file can be made there. Where the system can't say so, the error tells why. A file that it
+// opens after it told nothing of it is refused by the reason that it had then.
+fn check_free(rt: &HostRuntime, path: &[u8], untold: Error) -> Result<()> {
     match open_read(rt, path) {
-        Ok(_) => Err(silence),
+        Ok(_) => Err(untold),
         Err(e) if e.raw_os_error() == Some(NOT_FOUND) => Ok(()),
         Err(e) => Err(e),
     }
