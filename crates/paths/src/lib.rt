@@ -1,7 +1,7 @@
 // Names of files, put together in lent memory.
 #![tactic(auto)]
 
-ghost use Rattle.std.specs.Prelude.{◌≡◌, true, IfOk};
+ghost use Rattle.std.specs.Prelude.{◌≡◌, true, IfOk, IsOk, IsUtf8};
 ghost use Rattle.io.specs.Counts.{IsPrefixLen};
 ghost use Rattle.paths.specs.Paths.{is_path, folder_size, folder, link_start, name_room, Named, Ended, ended_path, fresh_name};
 
@@ -41,7 +41,8 @@ pub fn is_path(path: &[u8]) -> bool
 
 // A path as the standard library takes it: all of it, and text. Any other is an error, whose reason is the one that the system has.
 pub fn as_text(path: &[u8]) -> Result<&str>
-    ensures { IfOk result (λ text. (text.now ≡ path.now) × (is_path path.now ≡ true)) }
+    ensures value { IfOk result (λ text. (text.now ≡ path.now) × (is_path path.now ≡ true)) }
+    ensures taken { is_path path.now ≡ true → IsUtf8 path.now → IsOk result }
 {
     if path.len() > LAST {
         return Err(Error::from_raw_os_error(NAME_TOO_LONG));
