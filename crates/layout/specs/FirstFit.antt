@@ -1,4 +1,4 @@
--- What document 01 says of first fit's bases, clause by clause. The theorem `layout-is-first-fit` shows that the layout which
+-- What document 01 says of first fit's bases, clause by clause. The theorem `layout_is_first_fit` shows that the layout which
 -- `bases_of` computes is so, and is the only one that is.
 use Rattle.std.specs.Prelude.{ℕ, ◌≤◌, ◌<◌, true, false, List, [], ◌⊎◌, ◌≡◌, length, get_or, take}
 use Rattle.lines.specs.Order.{before}

@@ -107,7 +107,7 @@ onward finale Phase4v i b c sheet = pass_vowel i c sheet
 onward finale Phase4vc i b c sheet = pair finale i b (mem sheet i) sheet
 onward finale Ertest i b c sheet = cond (ends_in_er i sheet) (Phase5 sheet) (Goto Marki i b c sheet)
 
--- So many labels passed. Enough of them come to phase 5 (proofs.Ends.middles-end).
+-- So many labels passed. Enough of them come to phase 5 (proofs.Ends.middles_end).
 unfoldable pub middles : ℕ → ℕ → Middle → Middle
 middles zero finale m = m
 middles (suc steps) finale (Phase5 sheet) = Phase5 sheet

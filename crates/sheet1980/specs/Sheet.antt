@@ -4,7 +4,7 @@ use Rattle.tables1980.specs.Words.{◌ε◌}
 use Rattle.tables1980.specs.Suffix.{suffix}
 
 -- 004's u: place k of the sheet is written u + k, so that the places a machine comes to below place 0 ("lated" reaches -1) have a number
--- too. Any u will do from which no machine falls below 0 (suffix1980.proofs.Ends.place-stays).
+-- too. Any u will do from which no machine falls below 0 (suffix1980.proofs.Ends.place_stays).
 abbrev pub u : ℕ
 u = 16
 

@@ -10,7 +10,7 @@ ghost use Rattle.states.specs.State.{state_of, all_zero, is_gone, are_left, is_l
 
 use base::Check;
 
-// How a run stands between two calls (specs/State.antt, runOf).
+// How a run stands between two calls (specs/State.antt, run_of).
 pub const HOLDING: u8 = 0;
 
 pub const GONE: u8 = 1;
