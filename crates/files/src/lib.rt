@@ -174,13 +174,18 @@ fn replace(rt: &HostRuntime, path: &[u8], bytes: &[u8], old: Status) -> Result<(
     }
 }
 
+// Is this the standard library's own error, that a link's text is none? The system's have a number.
+fn is_no_text(error: &Error) -> bool {
+    error.kind() == ErrorKind::InvalidFilename && error.raw_os_error().is_none()
+}
+
 // The text of a link, none where the name is no link's. A link whose text can't be had is an error, since the link must stay.
 fn read_link(rt: &HostRuntime, path: &[u8], text: &mut [u8]) -> Result<usize>
     ensures { IfOk result (λ size. IsPrefixLen size text.new) }
 {
     match fs::read_link(rt, paths::as_text(path)?) {
         Ok(link) => Ok(paths::put_name(link.as_str().as_bytes(), text, 0)),
-        Err(e) if e.kind() == ErrorKind::InvalidFilename => Err(Error::from_raw_os_error(NO_TEXT)),
+        Err(e) if is_no_text(&e) => Err(Error::from_raw_os_error(NO_TEXT)),
         Err(e) if e.kind() == ErrorKind::OutOfMemory => Err(e),
         Err(_) => Ok(0),
     }
