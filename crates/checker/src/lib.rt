@@ -14,7 +14,7 @@ ghost use Rattle.trie.specs.Sound.{sound};
 ghost use Rattle.rightness.specs.Test.{kinds_from, kinds_test, exact_test, none_between, passed_over, follow, root_at, paths_test, check_grounds};
 ghost use Rattle.checker.specs.Post.{same_levels};
 
-use base::{Check, Ground};
+use base::Ground;
 use rightness::{Beside, Node};
 use table::{Entry, Look};
 
@@ -230,17 +230,11 @@ fn is_right(text: &[u8], cells: &[u8], entries: &[u8], root: u16) -> bool
 }
 
 // The checker: 8, 7, 9, 12; it accepts where nothing is refused.
-pub fn check(text: &[u8], table: &[u8]) -> Check
+pub fn check(text: &[u8], table: &[u8]) -> Result<(), Ground>
     ensures { says result ≡ first_of (Finds []) (check_grounds text.now table.now) }
 {
-    let list = lists::judge_patterns(text);
-    if let Check::Refused(g) = list {
-        return Check::Refused(g);
-    }
-    let form = table::judge_table(table);
-    if let Check::Refused(g) = form {
-        return Check::Refused(g);
-    }
+    lists::judge_patterns(text)?;
+    table::judge_table(table)?;
     let cells = table::cells_of(table);
     let entries = table::entries_of(table);
     if !has_kinds(
@@ -249,10 +243,10 @@ pub fn check(text: &[u8], table: &[u8]) -> Check
         table::cell_count(table),
         table::entry_count(table),
     ) {
-        return Check::Refused(Ground::NotRight); // a record of another kind
+        return Err(Ground::NotRight); // a record of another kind
     }
     if !is_right(text, cells, entries, table::ROOT_BASE) {
-        return Check::Refused(Ground::NotRight); // other paths than the list's
+        return Err(Ground::NotRight); // other paths than the list's
     }
-    Check::Fine
+    Ok(())
 }

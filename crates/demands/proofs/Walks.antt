@@ -5,7 +5,7 @@ use mathlib.Core.List.{List}
 use mathlib.Core.Path.{◌≡◌, ◌∙◌}
 use lib.ListN.{length, drop}
 use Rattle.base.specs.Limits.{pattern_limit, word_limit}
-use Rattle.base.specs.declared.Check.TheVariants.{Fine}
+use Rattle.std.specs.Prelude.{Ok, Err}
 use Rattle.words.specs.Words.{judge_word, row_of}
 use Rattle.words.proofs.Laws.{row_length}
 use Rattle.lookup.specs.Listed.{Listed}
@@ -25,7 +25,7 @@ use Rattle.demands.proofs.Breaks.{count_unlisted}
 
 -- "Over a right table, let m be the length of the longest beginning of a pattern that stands at a place, 0 if none does: the walk
 -- from there matches m symbols".
-pub matches_at_place : (text table : List ℕ) → judge_check text table ≡ Fine → (word : List ℕ) → judge_word word_limit word ≡ Fine → (place : ℕ)
+pub matches_at_place : (text table : List ℕ) → judge_check text table ≡ Ok tt → (word : List ℕ) → judge_word word_limit word ≡ Ok tt → (place : ℕ)
     → matches_from (cells_of table) pattern_limit root_base (drop place (row_of word)) ≡ longest (patterns_of text) (drop place (row_of word))
 matches_at_place text table accepted word fine = over.matches_at_place (patterns_of text) (cells_of table) (entries_of table) root_base (accepted_paths text table accepted) word fine
 

@@ -51,7 +51,7 @@ fn put_word<'a>(
             looks: looks,
         },
         // No word that was judged is refused.
-        Answer::Refused(_) => Shown { end: at, looks: 0 },
+        Err(_) => Shown { end: at, looks: 0 },
     }
 }
 

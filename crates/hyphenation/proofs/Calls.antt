@@ -5,8 +5,8 @@ use mathlib.Core.Path.{◌≡◌, sym, ◌∙◌, ap}
 use borrow.Author.Tests.{ltb-false}
 use lib.ListN.{take}
 use Rattle.base.specs.Limits.{word_limit, room_size}
-use Rattle.base.specs.declared.Check.{Check}
-use Rattle.base.specs.declared.Check.TheVariants.{Fine, Refused}
+use Rattle.base.specs.Grounds.{Check}
+use Rattle.std.specs.Prelude.{Ok, Err}
 use Rattle.base.specs.declared.Ground.{Ground}
 use Rattle.base.specs.declared.Ground.TheVariants.{RoomShort}
 use Rattle.base.proofs.Grounds.{both_fine, not_refused}
@@ -22,13 +22,13 @@ use Rattle.hyphenation.specs.declared.Answer.{Answer}
 use Rattle.hyphenation.specs.declared.Answer.TheVariants as answers
 
 -- what a judged room is
-pub room_fits : (size : ℕ) → judge_room size ≡ Fine → room_size ≤ size
+pub room_fits : (size : ℕ) → judge_room size ≡ Ok tt → room_size ≤ size
 unfolding judge_room
 room_fits size e = ltb-false size room_size (not_refused (is_short room_size size) RoomShort e)
 
 -- a sheet in the room whose marks are counted is a finding
 counted : (f : ℕ → ℕ) (room : List ℕ) {after : List ℕ} {count marks looks : ℕ} → Done (sheet room_size f) count room looks after → marks ≡ nonzero (take room_size after)
-    → Answered Fine (sheet room_size f) count room (answers.Found marks looks) after
+    → Answered (Ok tt) (sheet room_size f) count room (answers.Found marks looks) after
 counted f room d m =
     let n = m ∙ ap (λ (l : List ℕ). nonzero (take room_size l)) d.memory ∙ ap nonzero (written_take room_size f room) in
     record { answered = rw (n, d.counted); memory = d.memory }
@@ -46,34 +46,34 @@ unfolding break_sheet
 breaks_counted left right word customer house cells entries root room d m = counted _ room d m
 
 -- a refusal leaves the room alone, whatever the call
-pub refused : (sheet : List ℕ) (looks : ℕ) (room : List ℕ) {judged judgement : Check} {g : Ground} → judged ≡ judgement → judged ≡ Refused g
+pub refused : (sheet : List ℕ) (looks : ℕ) (room : List ℕ) {judged judgement : Check} {g : Ground} → judged ≡ judgement → judged ≡ Err g
     → Answered judgement sheet looks room (answers.Refused g) room
 refused sheet looks room p q = record { answered = rw (← p, q); memory = rw (← p, q) }
 
 -- what is found over a table's parts, behind a judgement that refuses nothing
-pub levels_found : (word table room : List ℕ) {judged judgement : Check} {cells entries after : List ℕ} {r : Answer} → judged ≡ judgement → judged ≡ Fine
+pub levels_found : (word table room : List ℕ) {judged judgement : Check} {cells entries after : List ℕ} {r : Answer} → judged ≡ judgement → judged ≡ Ok tt
     → cells ≡ cells_of table → entries ≡ entries_of table → LevelsFound cells entries root_base word room r after
     → Answered judgement (level_sheet (cells_of table) (entries_of table) root_base word) (word_looks (cells_of table) root_base word) room r after
 levels_found word table room p q c e f = let j = sym p ∙ q in rw (j, ← c, ← e) f
 
-pub breaks_found : (left right : ℕ) (word customer house table room : List ℕ) {judged judgement : Check} {cells entries after : List ℕ} {r : Answer} → judged ≡ judgement → judged ≡ Fine
+pub breaks_found : (left right : ℕ) (word customer house table room : List ℕ) {judged judgement : Check} {cells entries after : List ℕ} {r : Answer} → judged ≡ judgement → judged ≡ Ok tt
     → cells ≡ cells_of table → entries ≡ entries_of table → BreaksFound left right word customer house cells entries root_base room r after
     → Answered judgement (breaks_sheet left right word customer house table) (breaks_looks word customer house table) room r after
 breaks_found left right word customer house table room p q c e f = let j = sym p ∙ q in rw (j, ← c, ← e) f
 
-pub word_alone_sizes : (word : List ℕ) (size : ℕ) {judged : Check} → judged ≡ judge_word_alone word size → judged ≡ Fine → (judge_word word_limit word ≡ Fine) × (room_size ≤ size)
+pub word_alone_sizes : (word : List ℕ) (size : ℕ) {judged : Check} → judged ≡ judge_word_alone word size → judged ≡ Ok tt → (judge_word word_limit word ≡ Ok tt) × (room_size ≤ size)
 unfolding judge_word_alone
 word_alone_sizes word size p q = let a = both_fine (judge_room size) (judge_word word_limit word) (sym p ∙ q) in (a.1, room_fits size a.0)
 
-pub levels_sizes : (word table : List ℕ) (size : ℕ) {judged : Check} → judged ≡ judge_levels word table size → judged ≡ Fine → (judge_word word_limit word ≡ Fine) × (room_size ≤ size)
+pub levels_sizes : (word table : List ℕ) (size : ℕ) {judged : Check} → judged ≡ judge_levels word table size → judged ≡ Ok tt → (judge_word word_limit word ≡ Ok tt) × (room_size ≤ size)
 unfolding judge_levels
 levels_sizes word table size p q =
     let a = both_fine (judge_room size) _ (sym p ∙ q) in
     let b = both_fine (judge_word word_limit word) (judge_table table) a.1 in
     (b.0, room_fits size a.0)
 
-pub breaks_sizes : (left right : ℕ) (word customer house table : List ℕ) (size : ℕ) {judged : Check} → judged ≡ judge_hyphenate left right word customer house table size → judged ≡ Fine
-    → (judge_word word_limit word ≡ Fine) × (room_size ≤ size)
+pub breaks_sizes : (left right : ℕ) (word customer house table : List ℕ) (size : ℕ) {judged : Check} → judged ≡ judge_hyphenate left right word customer house table size → judged ≡ Ok tt
+    → (judge_word word_limit word ≡ Ok tt) × (room_size ≤ size)
 unfolding judge_hyphenate
 breaks_sizes left right word customer house table size p q =
     let a = both_fine (judge_margins left right) _ (sym p ∙ q) in

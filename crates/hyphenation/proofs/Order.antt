@@ -5,9 +5,8 @@ use mathlib.Core.Bool.{◌||◌}
 use mathlib.Core.List.{List, [], ◌∷◌}
 use mathlib.Core.Path.{◌≡◌, sym, ◌∙◌, ap}
 use Rattle.base.specs.Limits.{word_limit, room_size}
-use Rattle.base.specs.Grounds.{Said, Row}
-use Rattle.base.specs.declared.Check.{Check}
-use Rattle.base.specs.declared.Check.TheVariants.{Fine, Refused}
+use Rattle.base.specs.Grounds.{Said, Row, Check}
+use Rattle.std.specs.Prelude.{Ok, Err}
 use Rattle.base.specs.declared.Ground.TheVariants.{Margin, RoomShort}
 use Rattle.base.proofs.Grounds.{Ordered, ordered_first, ordered_if, said_found, said_refused_lem, told_once, refuses_once, no_refusal}
 use Rattle.rooms.specs.Rooms.{is_short, nonzero}
@@ -56,12 +55,12 @@ answer_once (answers.Refused g) (answers.Refused h) e = ap answers.Refused (told
 module _ (sheet : List ℕ) (looks : ℕ) {rows : List Row} where
   answer_said_lem : (judged : Check) → Ordered judged rows → answer_said (answer judged sheet looks) ≡ found_or rows sheet looks
   unfolding answer_said
-  answer_said_lem Fine o = sym (said_found o (nonzero sheet ∷ looks ∷ []))
-  answer_said_lem (Refused g) o = sym (said_refused_lem o (nonzero sheet ∷ looks ∷ []))
+  answer_said_lem (Ok _) o = sym (said_found o (nonzero sheet ∷ looks ∷ []))
+  answer_said_lem (Err g) o = sym (said_refused_lem o (nonzero sheet ∷ looks ∷ []))
 
   room_left_lem : (judged : Check) → Ordered judged rows → (room : List ℕ) → room_after judged sheet room ≡ room_left (found_or rows sheet looks) sheet room
-  room_left_lem Fine o room = ap (λ (s : Said). room_left s sheet room) (sym (said_found o (nonzero sheet ∷ looks ∷ [])))
-  room_left_lem (Refused g) o room = ap (λ (s : Said). room_left s sheet room) (sym (said_refused_lem o (nonzero sheet ∷ looks ∷ [])))
+  room_left_lem (Ok _) o room = ap (λ (s : Said). room_left s sheet room) (sym (said_found o (nonzero sheet ∷ looks ∷ [])))
+  room_left_lem (Err g) o room = ap (λ (s : Said). room_left s sheet room) (sym (said_refused_lem o (nonzero sheet ∷ looks ∷ [])))
 
 -- from the promise by judgements to the one by grounds, and back
 module _ {judged : Check} {rows : List Row} (o : Ordered judged rows) {sheet : List ℕ} {looks : ℕ} {room : List ℕ} {r : Answer} {after : List ℕ} where

@@ -1,9 +1,7 @@
 -- The levels call and the hyphenating call: their grounds in order, their answers, and what they leave in the room.
-use Rattle.std.specs.Prelude.{ℕ, ◌||◌, List, [], ◌∷◌, ◌++◌, ◌≡◌, length}
+use Rattle.std.specs.Prelude.{ℕ, ◌||◌, List, [], ◌∷◌, ◌++◌, ◌≡◌, length, Ok, Err}
 use Rattle.base.specs.Limits.{word_limit, room_size}
-use Rattle.base.specs.Grounds.{told, Said, Finds, Refuses, Row, on, first_of, first, refuse_if}
-use Rattle.base.specs.declared.Check.{Check}
-use Rattle.base.specs.declared.Check.TheVariants.{Fine, Refused}
+use Rattle.base.specs.Grounds.{told, Said, Finds, Refuses, Row, on, first_of, first, refuse_if, Check}
 use Rattle.base.specs.declared.Ground.TheVariants.{Margin, RoomShort}
 use Rattle.words.specs.Words.{word_grounds, judge_word}
 use Rattle.lists.specs.Lists.{list_grounds, judge_lists}
@@ -76,12 +74,12 @@ unfoldable pub judge_word_alone : List ℕ → ℕ → Check
 judge_word_alone word size = first (judge_room size) (judge_word word_limit word)
 
 abbrev pub answer : Check → List ℕ → ℕ → Answer
-answer Fine sheet looks = answers.Found (nonzero sheet) looks
-answer (Refused g) sheet looks = answers.Refused g
+answer (Ok _) sheet looks = answers.Found (nonzero sheet) looks
+answer (Err g) sheet looks = answers.Refused g
 
 abbrev pub room_after : Check → List ℕ → List ℕ → List ℕ
-room_after Fine sheet room = written room_size sheet room
-room_after (Refused g) sheet room = room
+room_after (Ok _) sheet room = written room_size sheet room
+room_after (Err g) sheet room = room
 
 pub record Answered (judged : Check) (sheet : List ℕ) (looks : ℕ) (room : List ℕ) (r : Answer) (after : List ℕ) : Type 0 where
   pub answered : r ≡ answer judged sheet looks
@@ -101,7 +99,7 @@ Levels word table room = Answers (levels_grounds word table (length room))
 
 -- Its part behind all judgements, over a table's cells and entries.
 abbrev pub LevelsFound : (cells entries : List ℕ) (root : ℕ) (word room : List ℕ) → Answer → List ℕ → Type 0
-LevelsFound cells entries root word room = Answered Fine (level_sheet cells entries root word) (word_looks cells root word) room
+LevelsFound cells entries root word room = Answered (Ok tt) (level_sheet cells entries root word) (word_looks cells root word) room
 
 -- The hyphenating call's sheet and count over a table.
 abbrev pub breaks_sheet : ℕ → ℕ → List ℕ → List ℕ → List ℕ → List ℕ → List ℕ
@@ -127,7 +125,7 @@ Breaks left right word customer house table room = Answers (hyphenate_grounds le
 -- Its part behind all judgements, over a table's cells and entries.
 abbrev pub BreaksFound : (left right : ℕ) (word customer house cells entries : List ℕ) (root : ℕ) (room : List ℕ) → Answer → List ℕ → Type 0
 BreaksFound left right word customer house cells entries root room =
-    Answered Fine (break_sheet left right customer house cells entries root word) (break_looks customer house cells root word) room
+    Answered (Ok tt) (break_sheet left right customer house cells entries root word) (break_looks customer house cells root word) room
 
 -- The hyphenating call for a word alone: what it answers for a room of this size, and its promise.
 abbrev pub word_answer : ℕ → ℕ → List ℕ → List ℕ → List ℕ → List ℕ → ℕ → Answer

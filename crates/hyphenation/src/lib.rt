@@ -13,7 +13,7 @@ ghost use Rattle.hyphenation.specs.Breaks.{mark_hyphens};
 ghost use Rattle.hyphenation.specs.Post.{Done, line_sheet, odd_sheet, Inside};
 ghost use Rattle.hyphenation.specs.Calls.{room_grounds, margin_grounds, levels_grounds, hyphenate_grounds, word_alone_grounds, LevelsFound, Levels, BreaksFound, Breaks, WordBreaks};
 
-use base::{Check, Ground};
+use base::Ground;
 use lookup::Located;
 
 // What a call answers: how many bytes of the room it set, with the count of looks, or why it refuses.
@@ -24,13 +24,13 @@ pub enum Answer {
 }
 
 // Ground 5.
-pub fn judge_room(size: usize) -> Check
+pub fn judge_room(size: usize) -> Result<(), Ground>
     ensures { says result ≡ first_of (Finds []) (room_grounds size) }
 {
     if rooms::is_short(size, base::ROOM_SIZE) {
-        return Check::Refused(Ground::RoomShort);
+        return Err(Ground::RoomShort);
     }
-    Check::Fine
+    Ok(())
 }
 
 fn is_bad_margin(margin: usize) -> bool
@@ -43,41 +43,32 @@ fn is_bad_margin(margin: usize) -> bool
 }
 
 // Ground 1.
-pub fn judge_margins(left: usize, right: usize) -> Check
+pub fn judge_margins(left: usize, right: usize) -> Result<(), Ground>
     ensures { says result ≡ first_of (Finds []) (margin_grounds left right) }
 {
     if is_bad_margin(left) {
-        return Check::Refused(Ground::Margin);
+        return Err(Ground::Margin);
     }
     if is_bad_margin(right) {
-        return Check::Refused(Ground::Margin);
+        return Err(Ground::Margin);
     }
-    Check::Fine
+    Ok(())
 }
 
 // The grounds of the levels call: 5, 2, 4, 3, 9.
-pub fn judge_levels(word: &[u8], table: &[u8], size: usize) -> Check
+pub fn judge_levels(word: &[u8], table: &[u8], size: usize) -> Result<(), Ground>
     ensures { says result ≡ first_of (Finds []) (levels_grounds word.now table.now size) }
 {
-    let room = judge_room(size);
-    if let Check::Refused(g) = room {
-        return Check::Refused(g);
-    }
-    let own = words::judge_word(word, base::WORD_LIMIT);
-    if let Check::Refused(g) = own {
-        return Check::Refused(g);
-    }
+    judge_room(size)?;
+    words::judge_word(word, base::WORD_LIMIT)?;
     table::judge_table(table)
 }
 
 // The grounds of the hyphenating call for a word alone: 5, 2, 4, 3.
-pub fn judge_word_alone(word: &[u8], size: usize) -> Check
+pub fn judge_word_alone(word: &[u8], size: usize) -> Result<(), Ground>
     ensures { says result ≡ first_of (Finds []) (word_alone_grounds word.now size) }
 {
-    let room = judge_room(size);
-    if let Check::Refused(g) = room {
-        return Check::Refused(g);
-    }
+    judge_room(size)?;
     words::judge_word(word, base::WORD_LIMIT)
 }
 
@@ -90,25 +81,13 @@ pub fn judge_hyphenate(
     house: &[u8],
     table: &[u8],
     size: usize,
-) -> Check
+) -> Result<(), Ground>
     ensures { says result ≡ first_of (Finds []) (hyphenate_grounds left right word.now customer.now house.now table.now size) }
 {
-    let margins = judge_margins(left, right);
-    if let Check::Refused(g) = margins {
-        return Check::Refused(g);
-    }
-    let room = judge_room(size);
-    if let Check::Refused(g) = room {
-        return Check::Refused(g);
-    }
-    let own = words::judge_word(word, base::WORD_LIMIT);
-    if let Check::Refused(g) = own {
-        return Check::Refused(g);
-    }
-    let lists = lists::judge_lists(customer, house);
-    if let Check::Refused(g) = lists {
-        return Check::Refused(g);
-    }
+    judge_margins(left, right)?;
+    judge_room(size)?;
+    words::judge_word(word, base::WORD_LIMIT)?;
+    lists::judge_lists(customer, house)?;
     table::judge_table(table)
 }
 
@@ -165,7 +144,7 @@ fn put_breaks(left: usize, right: usize, n: usize, levels: &[u8; base::ROOM_SIZE
 }
 
 // The levels of a judged word in a judged room.
-fn find_levels(cells: &[u8], entries: &[u8], root: u16, word: &[u8], room: &mut [u8]) -> Answer
+fn find_levels(cells: &[u8], entries: &[u8], root: u16, word: &[u8], room: &mut [u8]) -> Result<Found, Ground>
     requires { (judge_word word_limit word.now ≡ Check.Fine) × (room_size ≤ length room.old) }
     ensures { LevelsFound cells.now entries.now root word.now room.old result room.new }
 {
@@ -218,7 +197,7 @@ fn find_breaks<'a>(
     entries: &[u8],
     root: u16,
     room: &mut [u8],
-) -> Answer
+) -> Result<Found, Ground>
     requires { (judge_word word_limit word.now ≡ Check.Fine) × (room_size ≤ length room.old) }
     ensures { BreaksFound left right word.now customer.now house.now cells.now entries.now root room.old result room.new }
 {
@@ -242,13 +221,10 @@ fn find_breaks<'a>(
 }
 
 // The levels call.
-pub fn levels(word: &[u8], table: &[u8], room: &mut [u8]) -> Answer
+pub fn levels(word: &[u8], table: &[u8], room: &mut [u8]) -> Result<Found, Ground>
     ensures { Levels word.now table.now room.old result room.new }
 {
-    let judged = judge_levels(word, table, room.len());
-    if let Check::Refused(g) = judged {
-        return Answer::Refused(g);
-    }
+    judge_levels(word, table, room.len())?;
     let cells = table::cells_of(table);
     let entries = table::entries_of(table);
     find_levels(cells, entries, table::ROOT_BASE, word, room)
@@ -263,13 +239,10 @@ pub fn hyphenate<'a>(
     house: &'a [u8],
     table: &[u8],
     room: &mut [u8],
-) -> Answer
+) -> Result<Found, Ground>
     ensures { Breaks left right word.now customer.now house.now table.now room.old result room.new }
 {
-    let judged = judge_hyphenate(left, right, word, customer, house, table, room.len());
-    if let Check::Refused(g) = judged {
-        return Answer::Refused(g);
-    }
+    judge_hyphenate(left, right, word, customer, house, table, room.len())?;
     let cells = table::cells_of(table);
     let entries = table::entries_of(table);
     find_breaks(
@@ -295,13 +268,10 @@ pub fn hyphenate_word<'a>(
     house: &'a [u8],
     table: &[u8],
     room: &mut [u8],
-) -> Answer
+) -> Result<Found, Ground>
     ensures { WordBreaks left right word.now customer.now house.now table.now room.old result room.new }
 {
-    let judged = judge_word_alone(word, room.len());
-    if let Check::Refused(g) = judged {
-        return Answer::Refused(g);
-    }
+    judge_word_alone(word, room.len())?;
     let cells = table::cells_of(table);
     let entries = table::entries_of(table);
     find_breaks(

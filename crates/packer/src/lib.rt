@@ -16,7 +16,7 @@ ghost use Rattle.fit.specs.Table.{put_kinds, first_fit};
 ghost use Rattle.packer.specs.Pack.{Lays, Packs};
 ghost use Rattle.packer.specs.Post.{as_outputs, entries_in, table_of, as_fit, Bounded};
 
-use base::{Check, Ground};
+use base::Ground;
 use entering::Entered;
 
 // What the packer answers: the table's length, or why it refuses.
@@ -143,7 +143,7 @@ fn finish(room: &mut [u8], made: &[u8], cells: u16, entries: u16) -> usize
 }
 
 // The first-fit table of a good text, in a room that is zero where a table may stand.
-fn lay(room: &mut [u8], text: &[u8]) -> Packing
+fn lay(room: &mut [u8], text: &[u8]) -> Result<usize, Ground>
     requires { (pack_room ≤ length room.old) × (take pack_room room.old ≡ replicate pack_room 0) × (judge_patterns text.now ≡ Check.Fine) }
     ensures { Lays text.now room.old result room.new }
 {
@@ -155,23 +155,20 @@ fn lay(room: &mut [u8], text: &[u8]) -> Packing
     );
     let Filled::Laid { cells, entries } = filled else {
         rooms::clear_from(room, 0, base::PACK_ROOM);
-        return Packing::Refused(Ground::NoFit);
+        return Err(Ground::NoFit);
     };
     let size = finish(room, &made, cells, entries);
-    Packing::Done(size)
+    Ok(size)
 }
 
 // Packs a pattern list first fit into the room.
-pub fn pack(text: &[u8], room: &mut [u8]) -> Packing
+pub fn pack(text: &[u8], room: &mut [u8]) -> Result<usize, Ground>
     ensures { Packs text.now room.old result room.new }
 {
     if rooms::is_short(room.len(), base::PACK_ROOM) {
-        return Packing::Refused(Ground::PackRoomShort);
+        return Err(Ground::PackRoomShort);
     }
-    let judged = lists::judge_patterns(text);
-    if let Check::Refused(g) = judged {
-        return Packing::Refused(g);
-    }
+    lists::judge_patterns(text)?;
     rooms::clear_from(room, 0, base::PACK_ROOM);
     lay(room, text)
 }

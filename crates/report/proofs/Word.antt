@@ -7,9 +7,8 @@ use native.Mathlib.Omega.{arith}
 use lib.Dec.{eqb}
 use lib.ListN.{length, drop, length-append}
 use Rattle.base.specs.Limits.{room_size, word_limit}
-use Rattle.base.specs.Grounds.{told}
-use Rattle.base.specs.declared.Check.{Check}
-use Rattle.base.specs.declared.Check.TheVariants.{Fine, Refused}
+use Rattle.base.specs.Grounds.{told, Check}
+use Rattle.std.specs.Prelude.{Ok, Err}
 use Rattle.base.specs.declared.Ground.{Ground}
 use Rattle.rooms.specs.Rooms.{sheet, written}
 use Rattle.rooms.proofs.Sheets.{sheet_length}
@@ -54,14 +53,14 @@ line_short left right word customer house table size = go (judge_word_alone word
   where
     go : (judged : Check) → judge_word_alone word size ≡ judged
         → length (word_line (answer judged (breaks_sheet left right word customer house table) (breaks_looks word customer house table)) (breaks_sheet left right word customer house table) word) ≤ line_limit
-    go Fine e =
+    go (Ok tt) e =
         omega (
           arith,
           word_fits word_limit word (word_alone_sizes word size refl e).0,
           word_short (hyphen ∷ []) (breaks_sheet left right word customer house table) word,
           length-append (hyphenated (hyphen ∷ []) (breaks_sheet left right word customer house table) word) (line_feed ∷ []),
         )
-    go (Refused g) e = omega (arith, told_short question (told g).number (told g).list (told g).place)
+    go (Err g) e = omega (arith, told_short question (told g).number (told g).list (told g).place)
 
 pub line_fits : (left right : ℕ) (word customer house table : List ℕ) (size at n : ℕ) → at + line_limit ≤ n → at + length (line_for left right word customer house table size) ≤ n
 line_fits left right word customer house table size at n h = omega (arith, line_short left right word customer house table size)
@@ -84,10 +83,10 @@ module _ (left right : ℕ) (word customer house table marks : List ℕ) {r : An
   b = computed (word_alone_ordered word (length marks)) promise
 
   module _ {count looks : ℕ} (e : r ≡ answers.Found count looks) where
-    alone : judge_word_alone word (length marks) ≡ Fine
+    alone : judge_word_alone word (length marks) ≡ Ok tt
     alone = (finding (judge_word_alone word (length marks)) (breaks_sheet left right word customer house table) (breaks_looks word customer house table) count looks (sym e ∙ b.answered)).judged_fine
 
-    fine : judge_word word_limit word ≡ Fine
+    fine : judge_word word_limit word ≡ Ok tt
     fine = (word_alone_sizes word (length marks) refl alone).0
 
     written_sheet : after ≡ breaks_sheet left right word customer house table ++ drop room_size marks

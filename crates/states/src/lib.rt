@@ -8,7 +8,6 @@ ghost use Rattle.runs.specs.Reached.{is_word, can_be_held, is_reached};
 ghost use Rattle.states.specs.Bytes.{head_size, state_size, total_of, of_bytes, state_bytes};
 ghost use Rattle.states.specs.State.{state_of, all_zero, is_gone, are_left, is_left, Reads};
 
-use base::Check;
 
 // How a run stands between two calls (specs/State.antt, run_of).
 pub const HOLDING: u8 = 0;
@@ -63,8 +62,8 @@ fn is_word(bytes: &[u8]) -> bool
 {
     let judged = words::judge_word(bytes, base::WORD_LIMIT);
     match judged {
-        Check::Fine => true,
-        Check::Refused(_) => false,
+        Ok(()) => true,
+        Err(_) => false,
     }
 }
 

@@ -1,9 +1,7 @@
 -- How an answer stands in the 64 bits that a C function returns. include/tteolmigu.h says the same to a reader of C.
-use Rattle.std.specs.Prelude.{ℕ, ◌+◌, ◌*◌, ◌-◌, ◌/◌, ◌%◌, ◌^◌, List, get_or}
+use Rattle.std.specs.Prelude.{ℕ, ◌+◌, ◌*◌, ◌-◌, ◌/◌, ◌%◌, ◌^◌, List, get_or, Ok, Err}
 use Rattle.base.specs.Limits.{customer_list, house_list}
-use Rattle.base.specs.Grounds.{told, Said, Finds, Refuses}
-use Rattle.base.specs.declared.Check.{Check}
-use Rattle.base.specs.declared.Check.TheVariants as checks
+use Rattle.base.specs.Grounds.{told, Said, Finds, Refuses, Check}
 use Rattle.base.specs.declared.Ground.{Ground}
 use Rattle.lookup.specs.declared.Located.{Located}
 use Rattle.lookup.specs.declared.Located.TheVariants.{Customer, House, Nowhere}
