@@ -12,7 +12,7 @@ use lib.ListN.{length, get_or, take, drop, replicate, get_or-replicate, drop_of_
 use lib.Seq.{take-nil}
 use Rattle.base.specs.Limits.{symbol_limit, pattern_limit, level_limit, room_size}
 use Rattle.base.specs.Grounds.{refuse_if}
-use Rattle.std.specs.Prelude.{Ok, Err, Some, None}
+use Rattle.std.specs.Prelude.{Ok, Err, Some, None, Option}
 use Rattle.base.specs.declared.Ground.TheVariants.{NotRight}
 use Rattle.base.proofs.Lists.{cons_at, both}
 use Rattle.words.specs.Symbols.{small, digit, symbol_of, symbols_of}

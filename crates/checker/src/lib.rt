@@ -7,7 +7,6 @@ ghost use Rattle.base.specs.Limits.{pattern_limit};
 ghost use Rattle.words.specs.Symbols.{symbols_of};
 ghost use Rattle.lists.specs.Lists.{judge_lines};
 ghost use Rattle.lists.specs.declared.Form.{Form};
-ghost use Rattle.lists.specs.declared.Lines.{Lines};
 ghost use Rattle.liang.specs.Patterns.{levels_from, patterns_of};
 ghost use Rattle.table.specs.Table.{cell_size};
 ghost use Rattle.trie.specs.Sound.{sound};
@@ -199,7 +198,7 @@ fn is_followed(cells: &[u8], entries: &[u8], root: u16, own: &[u8], beside: Besi
 // Are a table's paths from a root right for a good text? Every line is followed through the table; behind the last one, the root
 // goes on with no further symbol.
 fn is_right(text: &[u8], cells: &[u8], entries: &[u8], root: u16) -> bool
-    requires { judge_lines Form.Patterns text.now ≡ Lines.Good }
+    requires { judge_lines Form.Patterns text.now ≡ Ok tt }
     ensures { result ≡ paths_test (patterns_of text.now) cells.now entries.now root }
 {
     let mut known: usize = 0;

@@ -21,8 +21,7 @@ use Rattle.matching.specs.Longest.{longest}
 use Rattle.matching.proofs.Looks.{Looked}
 use Rattle.decision.proofs.Theorems.{acceptance}
 use Rattle.hyphenation.specs.Levels.{level_at, level_sheet, word_looks}
-use Rattle.hyphenation.specs.Calls.{judge_room, judge_levels, Answered, Levels}
-use Rattle.hyphenation.specs.declared.Answer.TheVariants as answers
+use Rattle.hyphenation.specs.Calls.{judge_room, judge_levels, Answered, Levels, found}
 use Rattle.hyphenation.proofs.Order.{levels_ordered, computed}
 use Rattle.hyphenation.proofs.Theorems.{Finding, finding}
 use Rattle.demands.proofs.Liang as over
@@ -44,8 +43,8 @@ module _ (text table : List ℕ) (accepted : judge_check text table ≡ Ok tt) w
   level_liang word fine = over.level_liang (patterns_of text) (cells_of table) (entries_of table) root_base accepted_paths word fine patterns_shaped
 
   -- "the levels call gives each inner gap of a word the highest level that a pattern of the list sets there, or 0 if none does"
-  module _ (word room after : List ℕ) (marks looks : ℕ) (l : Levels word table room (answers.Found marks looks) after) where
-    levels_computed : Answered (judge_levels word table (length room)) (level_sheet (cells_of table) (entries_of table) root_base word) (word_looks (cells_of table) root_base word) room (answers.Found marks looks) after
+  module _ (word room after : List ℕ) (marks looks : ℕ) (l : Levels word table room (found marks looks) after) where
+    levels_computed : Answered (judge_levels word table (length room)) (level_sheet (cells_of table) (entries_of table) root_base word) (word_looks (cells_of table) root_base word) room (found marks looks) after
     levels_computed = computed (levels_ordered word table (length room)) l
 
     levels_finding : Finding (judge_levels word table (length room)) (level_sheet (cells_of table) (entries_of table) root_base word) (word_looks (cells_of table) root_base word) marks looks

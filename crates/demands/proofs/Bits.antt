@@ -35,9 +35,7 @@ use Rattle.table.specs.Table.{root_base, head_size, head_kind, edition, cell_siz
 use Rattle.rightness.specs.Test.{right_for, judge_check}
 use Rattle.hyphenation.specs.Levels.{level_sheet, word_looks}
 use Rattle.hyphenation.specs.Breaks.{break_sheet}
-use Rattle.hyphenation.specs.Calls.{judge_room, judge_margins, judge_levels, judge_hyphenate, answer, levels_answer, breaks_sheet, breaks_looks, breaks_answer}
-use Rattle.hyphenation.specs.declared.Answer.{Answer}
-use Rattle.hyphenation.specs.declared.Answer.TheVariants as answers
+use Rattle.hyphenation.specs.Calls.{judge_room, judge_margins, judge_levels, judge_hyphenate, answer, levels_answer, breaks_sheet, breaks_looks, breaks_answer, Answer, found}
 use Rattle.words.proofs.Laws.{word_fits, letters_fit}
 use Rattle.hyphenation.proofs.Calls.{levels_sizes, breaks_sizes}
 use Rattle.hyphenation.proofs.Theorems.{word_few, breaks_few}
@@ -237,8 +235,8 @@ pack_small text size =
 
 -- What is read of an answer's bits.
 pub ReadsAnswer : Answer → ℕ → Type 0
-ReadsAnswer (answers.Found marks looks) bits = (number_in bits ≡ 0) × (marks_in bits ≡ marks) × (looks_in bits ≡ looks)
-ReadsAnswer (answers.Refused g) bits = ReadsRefusal g bits
+ReadsAnswer (Ok f) bits = (number_in bits ≡ 0) × (marks_in bits ≡ f.marks) × (looks_in bits ≡ f.looks)
+ReadsAnswer (Err g) bits = ReadsRefusal g bits
 
 -- an answer by its judgement, where the finding's two numbers fit
 reads_answer : (judged : Check) (bytes : List ℕ) (looks : ℕ) → SmallCheck judged → length bytes ≡ room_size → (judged ≡ Ok tt → looks < 4294967296)

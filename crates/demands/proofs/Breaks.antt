@@ -31,8 +31,7 @@ use Rattle.table.specs.Table.{root_base, judge_table, cells_of, entries_of}
 use Rattle.rightness.specs.Test.{judge_check}
 use Rattle.hyphenation.specs.Levels.{level_at, word_looks}
 use Rattle.hyphenation.specs.Deciding.{Decided, deciding_line, HyphenCounts}
-use Rattle.hyphenation.specs.Calls.{judge_room, judge_margins, judge_hyphenate, breaks_sheet, breaks_looks, Breaks}
-use Rattle.hyphenation.specs.declared.Answer.TheVariants as answers
+use Rattle.hyphenation.specs.Calls.{judge_room, judge_margins, judge_hyphenate, breaks_sheet, breaks_looks, Breaks, found}
 use Rattle.hyphenation.proofs.Order.{hyphenate_ordered, computed}
 use Rattle.hyphenation.proofs.Theorems.{finding}
 use Rattle.demands.proofs.Hyphens.{line_counts, counts_line}
@@ -94,14 +93,14 @@ record Finds (left right : ℕ) (word customer house table room after : List ℕ
   number : marks ≡ nonzero (breaks_sheet left right word customer house table)
   count : looks ≡ breaks_looks word customer house table
 
-finds : (left right : ℕ) (word customer house table room after : List ℕ) (marks looks : ℕ) → Breaks left right word customer house table room (answers.Found marks looks) after
+finds : (left right : ℕ) (word customer house table room after : List ℕ) (marks looks : ℕ) → Breaks left right word customer house table room (found marks looks) after
     → Finds left right word customer house table room after marks looks
 finds left right word customer house table room after marks looks b =
     let a = computed (hyphenate_ordered left right word customer house table (length room)) b in
     let f = finding (judge_hyphenate left right word customer house table (length room)) _ _ marks looks a.answered in
     record { judged = f.judged_fine; sheet = a.memory ∙ rw f.judged_fine; number = f.marks_are; count = f.looks_are }
 
-module _ (left right : ℕ) (word customer house table room after : List ℕ) (marks looks : ℕ) (b : Breaks left right word customer house table room (answers.Found marks looks) after) where
+module _ (left right : ℕ) (word customer house table room after : List ℕ) (marks looks : ℕ) (b : Breaks left right word customer house table room (found marks looks) after) where
   found : Finds left right word customer house table room after marks looks
   found = finds left right word customer house table room after marks looks b
 

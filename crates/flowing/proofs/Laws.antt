@@ -25,9 +25,7 @@ use Rattle.words.specs.Symbols.{letter, apostrophe}
 use Rattle.words.specs.Words.{judge_word}
 use Rattle.words.proofs.Laws.{word_fits}
 use Rattle.hyphenation.specs.Breaks.{break_sheet}
-use Rattle.hyphenation.specs.Calls.{judge_room, judge_word_alone, Answered, breaks_sheet, breaks_looks, WordBreaks}
-use Rattle.hyphenation.specs.declared.Answer.{Answer}
-use Rattle.hyphenation.specs.declared.Answer.TheVariants as answers
+use Rattle.hyphenation.specs.Calls.{judge_room, judge_word_alone, Answered, breaks_sheet, breaks_looks, WordBreaks, Answer, found}
 use Rattle.table.specs.Table.{root_base, cells_of}
 use Rattle.hyphenation.proofs.Order.{word_alone_ordered, computed}
 use Rattle.hyphenation.proofs.Theorems.{breaks_few}
@@ -56,12 +54,12 @@ module _ (left right : ℕ) (word customer house table marks : List ℕ) (good :
   said : Answered (judge_word_alone word (length marks)) (breaks_sheet left right word customer house table) (breaks_looks word customer house table) marks r after
   said = computed (word_alone_ordered word (length marks)) promise
 
-  found : r ≡ answers.Found (nonzero (breaks_sheet left right word customer house table)) (breaks_looks word customer house table)
+  found : r ≡ found (nonzero (breaks_sheet left right word customer house table)) (breaks_looks word customer house table)
   found = said.answered ∙ rw alone
 
   -- no word that was judged is refused
-  pub not_refused_word : {g : Ground} {A : Type 0} → r ≡ answers.Refused g → A
-  not_refused_word e = let z : ◌≡◌ {A = Answer} (answers.Found (nonzero (breaks_sheet left right word customer house table)) (breaks_looks word customer house table)) (answers.Refused _) = sym found ∙ e in clash cc
+  pub not_refused_word : {g : Ground} {A : Type 0} → r ≡ Err g → A
+  not_refused_word e = let z : ◌≡◌ {A = Answer} (found (nonzero (breaks_sheet left right word customer house table)) (breaks_looks word customer house table)) (Err _) = sym found ∙ e in clash cc
 
   sheet_long : length (breaks_sheet left right word customer house table) ≡ room_size
   unfolding break_sheet sheet
@@ -84,15 +82,15 @@ module _ (left right : ℕ) (word customer house table marks : List ℕ) (good :
   pub marked_fits : (sign : List ℕ) → length sign ≡ 2 → (at n : ℕ) → at + room_per_byte * length word ≤ n → at + length (hyphenated sign after word) ≤ n
   marked_fits sign two at n h = omega (arith, h, rw two at (word_short sign after word))
 
-  pub word_shows : {marked looks : ℕ} → r ≡ answers.Found marked looks → {at end : ℕ} {room filled : List ℕ} → Put (hyphenated break_sign after word) at room end filled
+  pub word_shows : {marked looks : ℕ} → r ≡ found marked looks → {at end : ℕ} {room filled : List ℕ} → Put (hyphenated break_sign after word) at room end filled
       → Shows (broken left right customer house table word) (word_looks customer house table word) at room (record { end = end; looks = looks }) filled
   unfolding word_looks
   word_shows e p =
-      let f : answers.Found _ _ ≡ answers.Found (nonzero (breaks_sheet left right word customer house table)) (breaks_looks word customer house table) = sym e ∙ found in
+      let f : found _ _ ≡ found (nonzero (breaks_sheet left right word customer house table)) (breaks_looks word customer house table) = sym e ∙ found in
       let l : _ ≡ breaks_looks word customer house table = looks_same f in
       record { put = put_as (sym shown) p; looked = l }
     where
-      looks_same : {a b c d : ℕ} → answers.Found a b ≡ answers.Found c d → b ≡ d
+      looks_same : {a b c d : ℕ} → found a b ≡ found c d → b ≡ d
       looks_same e = cc
 
 -- what can be held

@@ -3,7 +3,6 @@
 
 ghost use Rattle.std.specs.Prelude.{true, [], ◌∷◌, ◌++◌, ◌≡◌, ◌+◌, ◌*◌, ◌≤◌, ◌<◌, length, take};
 ghost use Rattle.base.specs.Limits.{word_limit, room_per_byte};
-ghost use Rattle.base.specs.declared.Check.{Check};
 ghost use Rattle.words.specs.Symbols.{letter, apostrophe};
 ghost use Rattle.words.specs.Words.{judge_word};
 ghost use Rattle.runs.specs.Held.{last_of};
@@ -40,7 +39,7 @@ fn put_word<'a>(
     room: &mut [u8],
     at: usize,
 ) -> Shown
-    requires { (judge_word word_limit word.now ≡ Check.Fine) × (at + room_per_byte * length word.now ≤ length room.old) }
+    requires { (judge_word word_limit word.now ≡ Ok tt) × (at + room_per_byte * length word.now ≤ length room.old) }
     ensures { Shows (broken left right customer.now house.now table.now word.now) (word_looks customer.now house.now table.now word.now) at room.old result room.new }
 {
     let mut marks = [0u8; base::ROOM_SIZE];

@@ -4,7 +4,6 @@
 ghost use Rattle.std.specs.Prelude.{◌≡◌, true, not, ◌&&◌, cond, [], ◌≤◌, eqb, length};
 ghost use Rattle.base.specs.Limits.{room_size, word_limit, width_count};
 ghost use Rattle.base.specs.Grounds.{Finds, says, first_of};
-ghost use Rattle.base.specs.declared.Check.{Check};
 ghost use Rattle.words.specs.Words.{judge_word, word_byte};
 ghost use Rattle.gauge.specs.Widths.{bad_width, any_bad, letter_width, fits_in};
 ghost use Rattle.gauge.specs.Fit.{given, fit_values, fit_grounds, fit_said, fit_answer};
@@ -126,7 +125,7 @@ fn last_break(mark: u8, fits: bool, i: usize, before: usize) -> usize
 
 // What is found of a judged word in a judged room.
 fn find_fit(gauge: Gauge, widths: &[f64], word: &[u8], room: &[u8]) -> Result<Fitting, Ground>
-    requires { (length widths.now ≡ width_count) × (judge_word word_limit word.now ≡ Check.Fine) × (room_size ≤ length room.now) }
+    requires { (length widths.now ≡ width_count) × (judge_word word_limit word.now ≡ Ok tt) × (room_size ≤ length room.now) }
     ensures { fit_said result ≡ Finds (fit_values gauge widths.now word.now room.now) }
 {
     let hyphen = gauge.hyphen;

@@ -17,9 +17,7 @@ use Rattle.table.specs.Table.{root_base, judge_table, cells_of, entries_of}
 use Rattle.hyphenation.specs.Levels.{level_sheet, word_looks}
 use Rattle.hyphenation.specs.Breaks.{break_sheet, break_looks}
 use Rattle.hyphenation.specs.Post.{Done}
-use Rattle.hyphenation.specs.Calls.{judge_room, judge_margins, judge_levels, judge_hyphenate, judge_word_alone, Answered, LevelsFound, breaks_sheet, breaks_looks, BreaksFound}
-use Rattle.hyphenation.specs.declared.Answer.{Answer}
-use Rattle.hyphenation.specs.declared.Answer.TheVariants as answers
+use Rattle.hyphenation.specs.Calls.{judge_room, judge_margins, judge_levels, judge_hyphenate, judge_word_alone, Answered, LevelsFound, breaks_sheet, breaks_looks, BreaksFound, Answer, found}
 
 -- what a judged room is
 pub room_fits : (size : ℕ) → judge_room size ≡ Ok tt → room_size ≤ size
@@ -28,27 +26,40 @@ room_fits size e = ltb-false size room_size (not_refused (is_short room_size siz
 
 -- a sheet in the room whose marks are counted is a finding
 counted : (f : ℕ → ℕ) (room : List ℕ) {after : List ℕ} {count marks looks : ℕ} → Done (sheet room_size f) count room looks after → marks ≡ nonzero (take room_size after)
-    → Answered (Ok tt) (sheet room_size f) count room (answers.Found marks looks) after
+    → Answered (Ok tt) (sheet room_size f) count room (found marks looks) after
 counted f room d m =
     let n = m ∙ ap (λ (l : List ℕ). nonzero (take room_size l)) d.memory ∙ ap nonzero (written_take room_size f room) in
     record { answered = rw (n, d.counted); memory = d.memory }
 
 pub levels_counted : (cells entries : List ℕ) (root : ℕ) (word room : List ℕ) {after : List ℕ} {marks looks : ℕ}
     → Done (level_sheet cells entries root word) (word_looks cells root word) room looks after → marks ≡ nonzero (take room_size after)
-    → LevelsFound cells entries root word room (answers.Found marks looks) after
+    → LevelsFound cells entries root word room (found marks looks) after
 unfolding level_sheet
 levels_counted cells entries root word room d m = counted _ room d m
 
 pub breaks_counted : (left right : ℕ) (word customer house cells entries : List ℕ) (root : ℕ) (room : List ℕ) {after : List ℕ} {marks looks : ℕ}
     → Done (break_sheet left right customer house cells entries root word) (break_looks customer house cells root word) room looks after → marks ≡ nonzero (take room_size after)
-    → BreaksFound left right word customer house cells entries root room (answers.Found marks looks) after
+    → BreaksFound left right word customer house cells entries root room (found marks looks) after
 unfolding break_sheet
 breaks_counted left right word customer house cells entries root room d m = counted _ room d m
 
+-- equal findings have equal parts
+parts : Answer → ℕ × ℕ
+parts (Ok f) = (f.marks, f.looks)
+parts (Err g) = (0, 0)
+
+pub marks_once : {marks looks marks' looks' : ℕ} → found marks looks ≡ found marks' looks' → marks ≡ marks'
+unfolding parts
+marks_once e = ap (λ (r : Answer). (parts r).0) e
+
+pub looks_once : {marks looks marks' looks' : ℕ} → found marks looks ≡ found marks' looks' → looks ≡ looks'
+unfolding parts
+looks_once e = ap (λ (r : Answer). (parts r).1) e
+
 -- a refusal leaves the room alone, whatever the call
-pub refused : (sheet : List ℕ) (looks : ℕ) (room : List ℕ) {judged judgement : Check} {g : Ground} → judged ≡ judgement → judged ≡ Err g
-    → Answered judgement sheet looks room (answers.Refused g) room
-refused sheet looks room p q = record { answered = rw (← p, q); memory = rw (← p, q) }
+pub refused : (sheet : List ℕ) (looks : ℕ) (room : List ℕ) {judged judgement : Check} {g : Ground} {r : Answer} → judged ≡ judgement → judged ≡ Err g → r ≡ Err g
+    → Answered judgement sheet looks room r room
+refused sheet looks room p q e = record { answered = rw (e, ← p, q); memory = rw (← p, q) }
 
 -- what is found over a table's parts, behind a judgement that refuses nothing
 pub levels_found : (word table room : List ℕ) {judged judgement : Check} {cells entries after : List ℕ} {r : Answer} → judged ≡ judgement → judged ≡ Ok tt

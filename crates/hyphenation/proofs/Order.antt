@@ -14,9 +14,7 @@ use Rattle.words.proofs.Order.{word_ordered}
 use Rattle.lists.proofs.Order.{lists_ordered}
 use Rattle.liang.specs.Breaks.{bad_margin}
 use Rattle.table.proofs.Order.{table_ordered}
-use Rattle.hyphenation.specs.Calls.{room_grounds, margin_grounds, levels_grounds, hyphenate_grounds, word_alone_grounds, answer_said, found_or, room_left, Answers, judge_room, judge_margins, judge_levels, judge_hyphenate, judge_word_alone, answer, room_after, Answered}
-use Rattle.hyphenation.specs.declared.Answer.{Answer}
-use Rattle.hyphenation.specs.declared.Answer.TheVariants as answers
+use Rattle.hyphenation.specs.Calls.{room_grounds, margin_grounds, levels_grounds, hyphenate_grounds, word_alone_grounds, answer_said, found_or, room_left, Answers, judge_room, judge_margins, judge_levels, judge_hyphenate, judge_word_alone, answer, room_after, Answered, Answer}
 
 pub room_ordered : (size : ℕ) → Ordered (judge_room size) (room_grounds size)
 unfolding judge_room room_grounds
@@ -46,10 +44,10 @@ word_alone_ordered word size = ordered_first (room_ordered size) (word_ordered w
 -- no two answers say the same
 answer_once : (r s : Answer) → answer_said r ≡ answer_said s → r ≡ s
 unfolding answer_said
-answer_once (answers.Found m l) (answers.Found n k) e = let a : m ≡ n = cc in let b : l ≡ k = cc in rw (a, b)
-answer_once (answers.Found m l) (answers.Refused h) e = no_refusal e
-answer_once (answers.Refused g) (answers.Found n k) e = no_refusal (sym e)
-answer_once (answers.Refused g) (answers.Refused h) e = ap answers.Refused (told_once g h (refuses_once e))
+answer_once (Ok f) (Ok f') e = let a : f.marks ≡ f'.marks = cc in let b : f.looks ≡ f'.looks = cc in rw (a, b)
+answer_once (Ok f) (Err h) e = no_refusal e
+answer_once (Err g) (Ok f) e = no_refusal (sym e)
+answer_once (Err g) (Err h) e = ap Err (told_once g h (refuses_once e))
 
 -- what is answered and left by a judgement is what its grounds say
 module _ (sheet : List ℕ) (looks : ℕ) {rows : List Row} where

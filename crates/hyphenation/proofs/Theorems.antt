@@ -16,7 +16,7 @@ use Rattle.words.specs.Words.{judge_word, row_of}
 use Rattle.words.proofs.Laws.{row_length}
 use Rattle.words.proofs.Theorems.{same_judgement, same_symbols, same_length}
 use Rattle.lists.specs.Lists.{judge_lists}
-use Rattle.lookup.specs.Find.{find, own_first, find_either, span}
+use Rattle.lookup.specs.Find.{find, own_first, find_either}
 use Rattle.lookup.specs.declared.Span.{Span}
 use Rattle.lookup.specs.declared.Located.{Located}
 use Rattle.lookup.specs.declared.Located.TheVariants.{Customer, House, Nowhere}
@@ -26,10 +26,9 @@ use Rattle.table.specs.Table.{root_base, judge_table, cells_of, entries_of}
 use Rattle.walk.specs.Walk.{looks}
 use Rattle.walk.proofs.Count.{looks_few}
 use Rattle.hyphenation.specs.Levels.{level_at, level_sheet, word_looks}
-use Rattle.hyphenation.specs.Calls.{judge_room, judge_margins, judge_levels, judge_hyphenate, judge_word_alone, answer, Levels, Breaks, WordBreaks}
+use Rattle.hyphenation.specs.Calls.{judge_room, judge_margins, judge_levels, judge_hyphenate, judge_word_alone, answer, Levels, Breaks, WordBreaks, Answer, found}
+use Rattle.hyphenation.proofs.Calls.{marks_once, looks_once}
 use Rattle.hyphenation.proofs.Order.{levels_ordered, hyphenate_ordered, word_alone_ordered, promised, computed}
-use Rattle.hyphenation.specs.declared.Answer.{Answer}
-use Rattle.hyphenation.specs.declared.Answer.TheVariants as answers
 
 -- what it says that an answer is a finding
 pub record Finding (judged : Check) (sheet : List ℕ) (count marks looks : ℕ) : Type 0 where
@@ -37,8 +36,8 @@ pub record Finding (judged : Check) (sheet : List ℕ) (count marks looks : ℕ)
   pub marks_are : marks ≡ nonzero sheet
   pub looks_are : looks ≡ count
 
-pub finding : (judged : Check) (sheet : List ℕ) (count marks looks : ℕ) → answers.Found marks looks ≡ answer judged sheet count → Finding judged sheet count marks looks
-finding (Ok _) sheet count marks looks e = let m : marks ≡ nonzero sheet = cc in let l : looks ≡ count = cc in record { judged_fine = refl; marks_are = m; looks_are = l }
+pub finding : (judged : Check) (sheet : List ℕ) (count marks looks : ℕ) → found marks looks ≡ answer judged sheet count → Finding judged sheet count marks looks
+finding (Ok _) sheet count marks looks e = record { judged_fine = refl; marks_are = marks_once e; looks_are = looks_once e }
 finding (Err g) sheet count marks looks e = clash cc
 
 pub word_few : (cells : List ℕ) (root : ℕ) (word : List ℕ) → word_looks cells root word ≤ pattern_limit * (length word + 2)
@@ -46,7 +45,7 @@ unfolding word_looks
 word_few cells root word = omega (arith, looks_few cells root (row_of word), row_length word)
 
 -- "Over any table, a finding of either call carries the count of document 01's walk": at most 16(n + 2) looks.
-module _ (word table room after : List ℕ) (marks looks : ℕ) (l : Levels word table room (answers.Found marks looks) after) where
+module _ (word table room after : List ℕ) (marks looks : ℕ) (l : Levels word table room (found marks looks) after) where
   pub levels_count : looks ≡ word_looks (cells_of table) root_base word
   levels_count =
       (finding (judge_levels word table (length room)) (level_sheet (cells_of table) (entries_of table) root_base word) _ _ _ (computed (levels_ordered word table (length room)) l).answered).looks_are
@@ -64,7 +63,7 @@ unfolding break_looks
 breaks_few customer house cells root word = listed_few (find_either word customer house) (word_looks cells root word) (pattern_limit * (length word + 2)) (word_few cells root word)
 
 -- the same for the hyphenating call, whether an exception line decides or not
-module _ (left right : ℕ) (word customer house table room after : List ℕ) (marks looks : ℕ) (b : Breaks left right word customer house table room (answers.Found marks looks) after) where
+module _ (left right : ℕ) (word customer house table room after : List ℕ) (marks looks : ℕ) (b : Breaks left right word customer house table room (found marks looks) after) where
   breaks_count : looks ≡ break_looks customer house (cells_of table) root_base word
   breaks_count =
       (finding (judge_hyphenate left right word customer house table (length room)) (break_sheet left right customer house (cells_of table) (entries_of table) root_base word) _ _ _ (computed (hyphenate_ordered left right word customer house table (length room)) b).answered).looks_are

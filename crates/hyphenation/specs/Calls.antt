@@ -1,7 +1,8 @@
 -- The levels call and the hyphenating call: their grounds in order, their answers, and what they leave in the room.
-use Rattle.std.specs.Prelude.{ℕ, ◌||◌, List, [], ◌∷◌, ◌++◌, ◌≡◌, length, Ok, Err}
+use Rattle.std.specs.Prelude.{ℕ, ◌||◌, List, [], ◌∷◌, ◌++◌, ◌≡◌, length, Ok, Err, Result}
 use Rattle.base.specs.Limits.{word_limit, room_size}
 use Rattle.base.specs.Grounds.{told, Said, Finds, Refuses, Row, on, first_of, first, refuse_if, Check}
+use Rattle.base.specs.declared.Ground.{Ground}
 use Rattle.base.specs.declared.Ground.TheVariants.{Margin, RoomShort}
 use Rattle.words.specs.Words.{word_grounds, judge_word}
 use Rattle.lists.specs.Lists.{list_grounds, judge_lists}
@@ -10,8 +11,7 @@ use Rattle.table.specs.Table.{root_base, table_grounds, judge_table, cells_of, e
 use Rattle.rooms.specs.Rooms.{is_short, written, nonzero}
 use Rattle.hyphenation.specs.Levels.{level_sheet, word_looks}
 use Rattle.hyphenation.specs.Breaks.{break_sheet, break_looks}
-use Rattle.hyphenation.specs.declared.Answer.{Answer}
-use Rattle.hyphenation.specs.declared.Answer.TheVariants as answers
+use Rattle.hyphenation.specs.declared.Found.{Found}
 
 -- Ground 5: "break or level room under 64 bytes".
 unfoldable pub room_grounds : ℕ → List Row
@@ -34,10 +34,17 @@ hyphenate_grounds left right word customer house table size =
 unfoldable pub word_alone_grounds : List ℕ → ℕ → List Row
 word_alone_grounds word size = room_grounds size ++ word_grounds word_limit word
 
+-- What a call answers: a finding, or why it refuses.
+abbrev pub Answer : Type 0
+Answer = Result Found Ground
+
+abbrev pub found : ℕ → ℕ → Answer
+found marks looks = Ok (record { marks = marks; looks = looks })
+
 -- What an answer says: "the number of breaks and the count", or of levels that aren't 0; or why the call refuses.
 unfoldable pub answer_said : Answer → Said
-answer_said (answers.Found marks looks) = Finds (marks ∷ looks ∷ [])
-answer_said (answers.Refused g) = Refuses (told g)
+answer_said (Ok f) = Finds (f.marks ∷ f.looks ∷ [])
+answer_said (Err g) = Refuses (told g)
 
 -- What a call says by the order of its grounds: a finding tells how many bytes of its sheet aren't 0, and the count of looks.
 abbrev pub found_or : List Row → List ℕ → ℕ → Said
@@ -74,8 +81,8 @@ unfoldable pub judge_word_alone : List ℕ → ℕ → Check
 judge_word_alone word size = first (judge_room size) (judge_word word_limit word)
 
 abbrev pub answer : Check → List ℕ → ℕ → Answer
-answer (Ok _) sheet looks = answers.Found (nonzero sheet) looks
-answer (Err g) sheet looks = answers.Refused g
+answer (Ok _) sheet looks = found (nonzero sheet) looks
+answer (Err g) sheet looks = Err g
 
 abbrev pub room_after : Check → List ℕ → List ℕ → List ℕ
 room_after (Ok _) sheet room = written room_size sheet room

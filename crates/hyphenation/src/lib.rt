@@ -4,7 +4,6 @@
 ghost use Rattle.std.specs.Prelude.{[], ◌≡◌, ◌≤◌, length, get_or};
 ghost use Rattle.base.specs.Limits.{room_size, word_limit};
 ghost use Rattle.base.specs.Grounds.{Finds, says, first_of};
-ghost use Rattle.base.specs.declared.Check.{Check};
 ghost use Rattle.words.specs.Words.{judge_word};
 ghost use Rattle.liang.specs.Breaks.{bad_margin, in_margins, level_break};
 ghost use Rattle.rooms.specs.Rooms.{sheet, written, bit};
@@ -16,11 +15,11 @@ ghost use Rattle.hyphenation.specs.Calls.{room_grounds, margin_grounds, levels_g
 use base::Ground;
 use lookup::Located;
 
-// What a call answers: how many bytes of the room it set, with the count of looks, or why it refuses.
+// What a call found: how many bytes of the room it set, and the count of looks.
 #[derive(Clone, Copy)]
-pub enum Answer {
-    Found { marks: usize, looks: usize },
-    Refused(Ground),
+pub struct Found {
+    pub marks: usize,
+    pub looks: usize,
 }
 
 // Ground 5.
@@ -69,7 +68,7 @@ pub fn judge_word_alone(word: &[u8], size: usize) -> Result<(), Ground>
     ensures { says result ≡ first_of (Finds []) (word_alone_grounds word.now size) }
 {
     judge_room(size)?;
-    words::judge_word(word, base::WORD_LIMIT)
+    words::judge_word(word, base::WORD_LIMIT) // its own grounds
 }
 
 // The grounds of the hyphenating call: 1, 5, 2, 4, 3, 8, 6, 9.
@@ -145,17 +144,14 @@ fn put_breaks(left: usize, right: usize, n: usize, levels: &[u8; base::ROOM_SIZE
 
 // The levels of a judged word in a judged room.
 fn find_levels(cells: &[u8], entries: &[u8], root: u16, word: &[u8], room: &mut [u8]) -> Result<Found, Ground>
-    requires { (judge_word word_limit word.now ≡ Check.Fine) × (room_size ≤ length room.old) }
+    requires { (judge_word word_limit word.now ≡ Ok tt) × (room_size ≤ length room.old) }
     ensures { LevelsFound cells.now entries.now root word.now room.old result room.new }
 {
     let mut levels = [0u8; base::ROOM_SIZE];
     let looks = walk::walk_word(cells, entries, root, word, &mut levels);
     rooms::copy_to(room, 0, &levels, base::ROOM_SIZE);
     let marks = rooms::count_marks(room, base::ROOM_SIZE);
-    Answer::Found {
-        marks: marks,
-        looks: looks,
-    }
+    Ok(Found { marks, looks })
 }
 
 // The breaks of a word of n letters by its exception line.
@@ -177,7 +173,7 @@ fn put_level_breaks(
     word: &[u8],
     room: &mut [u8],
 ) -> usize
-    requires { (judge_word word_limit word.now ≡ Check.Fine) × (room_size ≤ length room.old) }
+    requires { (judge_word word_limit word.now ≡ Ok tt) × (room_size ≤ length room.old) }
     ensures { Done (odd_sheet left right cells.now entries.now root word.now) (word_looks cells.now root word.now) room.old result room.new }
 {
     let mut levels = [0u8; base::ROOM_SIZE];
@@ -198,7 +194,7 @@ fn find_breaks<'a>(
     root: u16,
     room: &mut [u8],
 ) -> Result<Found, Ground>
-    requires { (judge_word word_limit word.now ≡ Check.Fine) × (room_size ≤ length room.old) }
+    requires { (judge_word word_limit word.now ≡ Ok tt) × (room_size ≤ length room.old) }
     ensures { BreaksFound left right word.now customer.now house.now cells.now entries.now root room.old result room.new }
 {
     let at = lookup::find_either(word, customer, house);
@@ -214,10 +210,7 @@ fn find_breaks<'a>(
         Located::Nowhere => put_level_breaks(left, right, cells, entries, root, word, room),
     };
     let marks = rooms::count_marks(room, base::ROOM_SIZE);
-    Answer::Found {
-        marks: marks,
-        looks: looks,
-    }
+    Ok(Found { marks, looks })
 }
 
 // The levels call.

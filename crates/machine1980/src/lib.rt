@@ -4,7 +4,6 @@
 ghost use Rattle.std.specs.Prelude.{[], ◌≡◌, ◌+◌, ◌<◌, ◌≤◌, length};
 ghost use Rattle.base.specs.Limits.{word_limit1980, room_size1980, short_word1980, budget1980};
 ghost use Rattle.base.specs.Grounds.{Finds, says, first_of};
-ghost use Rattle.base.specs.declared.Check.{Check};
 ghost use Rattle.words.specs.Words.{judge_letters};
 ghost use Rattle.rooms.specs.Rooms.{written, bit};
 ghost use Rattle.sheet1980.specs.Sheet.{Sheet};
@@ -122,7 +121,7 @@ fn put_breaks(n: usize, finale: usize, sheet: &[u8], room: &mut [u8])
 
 // What is found of a judged word of more than four letters in a judged room, on a sheet of its size. The room is written at the end.
 fn reprint_on(budget: usize, word: &[u8], sheet: &mut [u8], room: &mut [u8]) -> Result<Reprint, Ground>
-    requires { (judge_letters word_limit1980 word.now ≡ Check.Fine) × (short_word1980 < length word.now) × (length sheet.old ≡ length word.now + 2) × (room_size1980 ≤ length room.old) }
+    requires { (judge_letters word_limit1980 word.now ≡ Ok tt) × (short_word1980 < length word.now) × (length sheet.old ≡ length word.now + 2) × (room_size1980 ≤ length room.old) }
     ensures { Answered budget word.now room.old result room.new }
 {
     let n = word.len();
@@ -139,7 +138,7 @@ fn reprint_on(budget: usize, word: &[u8], sheet: &mut [u8], room: &mut [u8]) -> 
 
 // What is found of a judged word in a judged room.
 fn find_breaks(budget: usize, word: &[u8], room: &mut [u8]) -> Result<Reprint, Ground>
-    requires { (judge_letters word_limit1980 word.now ≡ Check.Fine) × (room_size1980 ≤ length room.old) }
+    requires { (judge_letters word_limit1980 word.now ≡ Ok tt) × (room_size1980 ≤ length room.old) }
     ensures { Answered budget word.now room.old result room.new }
 {
     let n = word.len();

@@ -9,7 +9,7 @@ use lib.Dec.{leb, ltb, eqb}
 use Rattle.base.specs.Limits.{level_limit}
 use Rattle.table.specs.declared.Entry.{Entry}
 use Rattle.table.specs.Table.{entry_at, has}
-use Rattle.std.specs.Prelude.{Some, None}
+use Rattle.std.specs.Prelude.{Some, None, Option}
 use Rattle.walk.specs.Chain.{Setting, setting, chain_step, chain_from, chain}
 use Rattle.walk.specs.Raise.{highest_set}
 

@@ -14,7 +14,7 @@ use Rattle.base.proofs.Lists.{clash, never, both, and_cond}
 use Rattle.liang.specs.Patterns.{Pattern}
 use Rattle.table.specs.declared.Entry.{Entry}
 use Rattle.table.specs.Table.{cell_kind, cell_size, entry_size, number_at, look, entry_at, Look, hit, has}
-use Rattle.std.specs.Prelude.{Some, None}
+use Rattle.std.specs.Prelude.{Some, None, Option}
 use Rattle.walk.specs.Chain.{Setting, setting, chain_step, chain_from, chain}
 use Rattle.walk.specs.Walk.{set_step, set_from, look_step, looks_from, settings, looks}
 use Rattle.walk.specs.Raise.{highest_set}

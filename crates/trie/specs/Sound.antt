@@ -1,5 +1,5 @@
 -- Chains of entries without a fault.
-use Rattle.std.specs.Prelude.{ℕ, zero, suc, Bool, true, false, cond, ◌&&◌, List, leb, ltb, eqb, Some, None}
+use Rattle.std.specs.Prelude.{ℕ, zero, suc, Bool, true, false, cond, ◌&&◌, List, leb, ltb, eqb, Some, None, Option}
 use Rattle.base.specs.Limits.{level_limit}
 use Rattle.table.specs.declared.Entry.{Entry}
 use Rattle.table.specs.Table.{entry_at, has}

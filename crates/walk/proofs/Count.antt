@@ -9,7 +9,7 @@ use native.Mathlib.Omega.{arith}
 use lib.Dec.{eqb}
 use lib.ListN.{length, drop}
 use Rattle.base.specs.Limits.{pattern_limit}
-use Rattle.table.specs.Table.{look, Look, hit}
+use Rattle.table.specs.Table.{look, Look}
 use Rattle.std.specs.Prelude.{Some, None}
 use Rattle.walk.specs.Walk.{look_step, looks_from, match_step, matches_from, looks, sum_to}
 

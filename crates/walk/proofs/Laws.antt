@@ -17,7 +17,7 @@ use Rattle.words.specs.Words.{word_symbols, row_of}
 use Rattle.words.proofs.Laws.{symbols_append}
 use Rattle.table.specs.declared.Entry.{Entry}
 use Rattle.table.specs.Table.{look, entry_at, Look, hit, has}
-use Rattle.std.specs.Prelude.{Some, None}
+use Rattle.std.specs.Prelude.{Some, None, Option}
 use Rattle.table.proofs.Laws.{entry_none}
 use Rattle.walk.specs.Chain.{Setting, setting, chain_step, chain_from, chain}
 use Rattle.walk.specs.Walk.{set_step, set_from, look_step, looks_from, settings, looks}

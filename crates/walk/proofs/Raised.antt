@@ -11,8 +11,8 @@ use lib.Seq.{get_or-set_same, get_or-set_other}
 use Rattle.base.specs.Limits.{level_limit}
 use Rattle.words.specs.Words.{inner}
 use Rattle.table.specs.declared.Entry.{Entry}
-use Rattle.table.specs.Table.{entry_at, has}
-use Rattle.std.specs.Prelude.{Some, None}
+use Rattle.table.specs.Table.{entry_at}
+use Rattle.std.specs.Prelude.{Some, None, Option}
 use Rattle.walk.specs.Chain.{Setting, setting, chain_step, chain_from, chain}
 use Rattle.walk.specs.Raise.{highest_set, raise, raise_all}
 use Rattle.walk.proofs.Laws.{raise_length}

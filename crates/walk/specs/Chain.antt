@@ -1,8 +1,8 @@
 -- The output of a path: a chain of entries, each of which sets a level at a gap.
-use Rattle.std.specs.Prelude.{ℕ, zero, suc, ◌-◌, cond, ◌&&◌, List, [], ◌∷◌, ◌++◌, leb, ltb, Some, None}
+use Rattle.std.specs.Prelude.{ℕ, zero, suc, ◌-◌, cond, ◌&&◌, List, [], ◌∷◌, ◌++◌, leb, ltb, Some, None, Option}
 use Rattle.base.specs.Limits.{level_limit}
 use Rattle.table.specs.declared.Entry.{Entry}
-use Rattle.table.specs.Table.{entry_at, has}
+use Rattle.table.specs.Table.{entry_at}
 
 -- A level set at a gap, which is told by the number of symbols of the row before it.
 pub record Setting : Type 0 where

@@ -1,7 +1,7 @@
 -- The walks from all places of a row: what they set, how many cells they look at, and how many symbols they match.
 use Rattle.std.specs.Prelude.{ℕ, zero, suc, ◌+◌, cond, List, [], ◌∷◌, ◌++◌, eqb, Some, None}
 use Rattle.base.specs.Limits.{pattern_limit}
-use Rattle.table.specs.Table.{look, Look, hit}
+use Rattle.table.specs.Table.{look, Look}
 use Rattle.walk.specs.Chain.{Setting, chain}
 
 -- "After a match, its output applies; go on with the next symbol and base = link, unless link is 0, the row has ended or 16
