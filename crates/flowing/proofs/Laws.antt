@@ -27,6 +27,7 @@ use Rattle.words.proofs.Laws.{word_fits}
 use Rattle.hyphenation.specs.Breaks.{break_sheet}
 use Rattle.hyphenation.specs.Calls.{judge_room, judge_word_alone, Answered, breaks_sheet, breaks_looks, WordBreaks, Answer, found}
 use Rattle.table.specs.Table.{root_base, cells_of}
+use Rattle.hyphenation.proofs.Calls.{looks_once}
 use Rattle.hyphenation.proofs.Order.{word_alone_ordered, computed}
 use Rattle.hyphenation.proofs.Theorems.{breaks_few}
 use Rattle.runs.specs.Held.{last_of, but_last, waits, finished}
@@ -54,12 +55,12 @@ module _ (left right : ℕ) (word customer house table marks : List ℕ) (good :
   said : Answered (judge_word_alone word (length marks)) (breaks_sheet left right word customer house table) (breaks_looks word customer house table) marks r after
   said = computed (word_alone_ordered word (length marks)) promise
 
-  found : r ≡ found (nonzero (breaks_sheet left right word customer house table)) (breaks_looks word customer house table)
-  found = said.answered ∙ rw alone
+  finds : r ≡ found (nonzero (breaks_sheet left right word customer house table)) (breaks_looks word customer house table)
+  finds = said.answered ∙ rw alone
 
   -- no word that was judged is refused
   pub not_refused_word : {g : Ground} {A : Type 0} → r ≡ Err g → A
-  not_refused_word e = let z : ◌≡◌ {A = Answer} (found (nonzero (breaks_sheet left right word customer house table)) (breaks_looks word customer house table)) (Err _) = sym found ∙ e in clash cc
+  not_refused_word e = let z : ◌≡◌ {A = Answer} (found (nonzero (breaks_sheet left right word customer house table)) (breaks_looks word customer house table)) (Err _) = sym finds ∙ e in clash cc
 
   sheet_long : length (breaks_sheet left right word customer house table) ≡ room_size
   unfolding break_sheet sheet
@@ -86,12 +87,8 @@ module _ (left right : ℕ) (word customer house table marks : List ℕ) (good :
       → Shows (broken left right customer house table word) (word_looks customer house table word) at room (record { end = end; looks = looks }) filled
   unfolding word_looks
   word_shows e p =
-      let f : found _ _ ≡ found (nonzero (breaks_sheet left right word customer house table)) (breaks_looks word customer house table) = sym e ∙ found in
-      let l : _ ≡ breaks_looks word customer house table = looks_same f in
-      record { put = put_as (sym shown) p; looked = l }
-    where
-      looks_same : {a b c d : ℕ} → found a b ≡ found c d → b ≡ d
-      looks_same e = cc
+      let f : found _ _ ≡ found (nonzero (breaks_sheet left right word customer house table)) (breaks_looks word customer house table) = sym e ∙ finds in
+      record { put = put_as (sym shown) p; looked = looks_once f }
 
 -- what can be held
 module _ (kept : List ℕ) (can : can_be_held kept ≡ true) (some : length kept ≡ 0 → ⊥) where
