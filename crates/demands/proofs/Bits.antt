@@ -56,9 +56,7 @@ use Rattle.states.specs.Bytes.{state_size, of_bytes}
 use Rattle.states.proofs.Theorems.{read_left_state}
 use Rattle.states.proofs.Bytes.{bytes_wide}
 use Rattle.flowing.specs.Output.{piece_text, piece_looks, end_text, end_looks}
-use Rattle.running.specs.Calls.{passes_end, short_for, judge_setting, judge_piece, judge_end, held_now, total_now, text_answer, judged_piece, piece_answer, judged_end, end_answer}
-use Rattle.running.specs.declared.TextAnswer.{TextAnswer}
-use Rattle.running.specs.declared.TextAnswer.TheVariants as texts
+use Rattle.running.specs.Calls.{passes_end, short_for, judge_setting, judge_piece, judge_end, held_now, total_now, text_answer, judged_piece, piece_answer, judged_end, end_answer, TextAnswer, written}
 use Rattle.running.proofs.Theorems.{answered_short}
 use Rattle.running.proofs.Sizes.{piece_fits, end_fits, piece_count, end_count}
 use Rattle.packer.specs.declared.Packing.{Packing}
@@ -450,8 +448,8 @@ bits_1980 word size = go (judge1980 word size) refl (small_1980 word size) (orde
 
 -- The bits of CR 6's calls say what they answer: the length of the text written and the count, or the refusal.
 pub ReadsText : TextAnswer → ℕ → Type 0
-ReadsText (texts.Written length looks) bits = (number_in bits ≡ 0) × (text_length_in bits ≡ length) × (looks_in bits ≡ looks)
-ReadsText (texts.Refused g) bits = ReadsRefusal g bits
+ReadsText (Ok w) bits = (number_in bits ≡ 0) × (text_length_in bits ≡ w.length) × (looks_in bits ≡ w.looks)
+ReadsText (Err g) bits = ReadsRefusal g bits
 
 setting_small : (left right : ℕ) (customer house table : List ℕ) → SmallCheck (judge_setting left right customer house table)
 unfolding judge_setting
