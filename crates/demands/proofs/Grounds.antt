@@ -35,9 +35,8 @@ use Rattle.running.specs.Calls.{setting_grounds, piece_grounds, end_grounds, tex
 use Rattle.running.specs.declared.Taken.{Taken}
 use Rattle.states.specs.State.{read_state}
 use Rattle.machine1980.specs.Run.{Outcome, RanOut, machine}
-use Rattle.machine1980.specs.Calls.{grounds1980, said1980, left_by, answer1980, room1980, Reprints}
+use Rattle.machine1980.specs.Calls.{grounds1980, said1980, left_by, answer1980, room1980, Reprints, Answer1980}
 use Rattle.machine1980.specs.Calls as reprint
-use Rattle.machine1980.specs.declared.Answer1980.{Answer1980}
 
 -- What demand 1 says of one answer of a call with this order of grounds.
 pub record Numbered (order : List ℕ) (grounds : List Row) (said : Said) : Type 0 where
