@@ -305,12 +305,9 @@ fn main(rt: HostRuntime) {
     let first = console::read_argument(&rt, b"hyphenate", false, 1, &mut patterns);
     let second = console::read_argument(&rt, b"hyphenate", false, 2, &mut customer);
     let third = console::read_argument(&rt, b"hyphenate", false, 3, &mut house);
-    if !(first.done && second.done && third.done) {
+    let (Some(p), Some(c), Some(h)) = (first, second, third) else {
         console::print_undone(&rt, b"hyphenate", Stream::Output);
         return;
-    }
-    let p = first.size;
-    let c = second.size;
-    let h = third.size;
-    run(&rt, &patterns[0..p], &customer[0..c], &house[0..h]);
+    };
+    run(&rt, &patterns[..p], &customer[..c], &house[..h]);
 }

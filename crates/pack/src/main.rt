@@ -101,13 +101,11 @@ fn run(rt: &HostRuntime, patterns: &[u8]) {
 // The file is read with room for one byte more than its limit, so that a longer one is told from one that has just as many.
 fn pack_file(rt: &HostRuntime) {
     let mut patterns = [0u8; base::PATTERN_TEXT + 1];
-    let read = console::read_argument(rt, b"pack", true, 1, &mut patterns);
-    if !read.done {
+    let Some(n) = console::read_argument(rt, b"pack", true, 1, &mut patterns) else {
         console::print_undone(rt, b"pack", refusals(rt));
         return;
-    }
-    let n = read.size;
-    run(rt, &patterns[0..n]);
+    };
+    run(rt, &patterns[..n]);
 }
 
 fn main(rt: HostRuntime) {
