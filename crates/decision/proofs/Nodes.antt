@@ -9,9 +9,8 @@ use lib.Dec.{leb, ltb, eqb}
 use lib.ListN.{length, get_or}
 use Rattle.base.specs.Limits.{symbol_limit}
 use Rattle.base.proofs.Lists.{never, both, untrue}
-use Rattle.table.specs.Table.{look}
-use Rattle.table.specs.declared.Look.{Look}
-use Rattle.table.specs.declared.Look.TheVariants.{Hit, Miss}
+use Rattle.table.specs.Table.{look, Look}
+use Rattle.std.specs.Prelude.{Some, None}
 use Rattle.liang.specs.Levels.{begins}
 use Rattle.patterns.specs.Common.{common}
 use Rattle.trie.specs.Paths.{onward, along}
@@ -34,21 +33,21 @@ along_append cells base (s ∷ (t ∷ u)) x w h = go (look cells (base + s) s) (
 
     go : (found : Look) → ((link : ℕ) → along cells link (t ∷ (u ++ (x ∷ w))) ≡ onward tail (along cells link (t ∷ u)))
         → onward (λ link. along cells link (t ∷ (u ++ (x ∷ w)))) found ≡ onward tail (onward (λ link. along cells link (t ∷ u)) found)
-    go Miss next = refl
-    go (Hit link output) next = leaf (eqb link 0)
+    go None next = refl
+    go (Some found) next = leaf (eqb found.link 0)
       where
-        leaf : (z : Bool) → cond z Miss (along cells link (t ∷ (u ++ (x ∷ w)))) ≡ onward tail (cond z Miss (along cells link (t ∷ u)))
+        leaf : (z : Bool) → cond z None (along cells found.link (t ∷ (u ++ (x ∷ w)))) ≡ onward tail (cond z None (along cells found.link (t ∷ u)))
         leaf true = refl
-        leaf false = next link
+        leaf false = next found.link
 
 -- where a look leads, and its output; from a miss nothing goes on
 abbrev pub behind : Look → Node
-behind Miss = record { leaf = true; base = 0 }
-behind (Hit link output) = linked link
+behind None = record { leaf = true; base = 0 }
+behind (Some found) = linked found.link
 
 abbrev pub out_of : Look → ℕ
-out_of Miss = 0
-out_of (Hit link output) = output
+out_of None = 0
+out_of (Some found) = found.output
 
 module _ (cells : List ℕ) (root : ℕ) where
   -- the node of a string
@@ -68,22 +67,22 @@ module _ (cells : List ℕ) (root : ℕ) where
   child_along (x ∷ u) s = rw (along_append cells root (x ∷ u) s [] (omega arith)) (go (along cells root (x ∷ u)))
     where
       go : (found : Look) → child_at cells (behind found) s ≡ onward (λ link. along cells link (s ∷ [])) found
-      go Miss = refl
-      go (Hit link output) = refl
+      go None = refl
+      go (Some found) = refl
 
   -- behind a string the table goes on with no symbol between two others
-  abbrev pub None : List ℕ → ℕ → ℕ → Type 0
-  None u low high = (s : ℕ) → low < s → s < high → is_hit (along cells root (u ++ (s ∷ []))) ≡ true → ⊥
+  abbrev pub NoneOn : List ℕ → ℕ → ℕ → Type 0
+  NoneOn u low high = (s : ℕ) → low < s → s < high → is_hit (along cells root (u ++ (s ∷ []))) ≡ true → ⊥
 
   misses : List ℕ → ℕ → Bool
   misses u s = not (is_hit (child_at cells (node_at u) s))
 
-  pub none_each : (u : List ℕ) (low high : ℕ) → none_between cells (node_at u) low high ≡ true → None u low high
+  pub none_each : (u : List ℕ) (low high : ℕ) → none_between cells (node_at u) low high ≡ true → NoneOn u low high
   unfolding none_between misses
   none_each u low high e s h k t =
       never (sym (not-true _ (all_each (misses u) (suc low) (high - suc low) e s h (omega arith))) ∙ ap is_hit (child_along u s) ∙ t)
 
-  pub each_none : (u : List ℕ) (low high : ℕ) → None u low high → none_between cells (node_at u) low high ≡ true
+  pub each_none : (u : List ℕ) (low high : ℕ) → NoneOn u low high → none_between cells (node_at u) low high ≡ true
   unfolding none_between misses
   each_none u low high n = each_all (misses u) (suc low) (high - suc low) (λ s h k. rw (child_along u s, untrue (is_hit (along cells root (u ++ (s ∷ [])))) (n s h (omega arith))))
 
@@ -95,8 +94,8 @@ next_of u a = cond (begins u a) (get_or a (length u) 0) 0
 -- its own where the pattern below has not u. The test asks for them by what the patterns have in common.
 module _ (cells : List ℕ) (root : ℕ) (u above own below : List ℕ) where
   pub record Passed : Type 0 where
-    pub under : None cells root u (next_of u above) (get_or own (length u) 0)
-    pub over : begins u below ≡ false → None cells root u (get_or own (length u) 0) (suc symbol_limit)
+    pub under : NoneOn cells root u (next_of u above) (get_or own (length u) 0)
+    pub over : begins u below ≡ false → NoneOn cells root u (get_or own (length u) 0) (suc symbol_limit)
 
   abbrev low : ℕ
   low = cond (eqb (length u) (common above own)) (get_or above (common above own) 0) 0
@@ -128,7 +127,7 @@ module _ (cells : List ℕ) (root : ℕ) (u above own below : List ℕ) where
         record { under = go (ltb (length u) (common above own)) refl p.0; over = λ e. none_each cells root u _ _ (rw (sym (begins_shared u own below stands) ∙ e) at p.1) }
       where
         go : (z : Bool) → ltb (length u) (common above own) ≡ z → (z || none_between cells (node_at cells root u) low (get_or own (length u) 0)) ≡ true
-            → None cells root u (next_of u above) (get_or own (length u) 0)
+            → NoneOn cells root u (next_of u above) (get_or own (length u) 0)
         go true e t = λ s h k. absurd (omega (arith, alike_next (ltb-true (length u) (common above own) e)))
         go false e t = rw (low_next (ltb-false (length u) (common above own) e)) at (none_each cells root u _ _ t)
 

@@ -1,6 +1,7 @@
 -- Demand 1: "every call ends with an answer or a numbered refusal. The numbers, their order, and what each leaves in the memory we
 -- lent are those of document 01, and none is given on other grounds." For each call: its order is document 01's, it finds exactly
 -- where none of these grounds holds, a refusal tells the first that holds, and what is left in lent memory then.
+use Rattle.std.specs.Prelude.{Result}
 use Prim.Native.Nat.{ℕ}
 use mathlib.Core.Bool.{Bool, true, false, cond}
 use mathlib.Core.List.{List, []}
@@ -10,9 +11,8 @@ use lib.Dec.{eqb}
 use lib.Ieee.{Float}
 use lib.ListN.{length}
 use Rattle.base.specs.Limits.{pack_room}
-use Rattle.base.specs.Grounds.{Told, Said, Finds, Refuses, says, Row, first_of, numbers_of, is_finding, any_holds, one_of}
+use Rattle.base.specs.Grounds.{Told, Said, Finds, Refuses, says, Row, first_of, numbers_of, is_finding, any_holds, one_of, Check}
 use Rattle.base.specs.Orders.{hyphenate_order, levels_order, pack_order, check_order, lookup_order, fit_order, order1980, piece_order, end_order}
-use Rattle.base.specs.declared.Check.{Check}
 use Rattle.base.proofs.Order.{Chosen, finding_exactly, refuses_first, refuses_listed, none_found_lem, some_refused}
 use Rattle.rooms.specs.Rooms.{filled}
 use Rattle.words.specs.Words.{grounds_by}
@@ -23,21 +23,20 @@ use Rattle.liang.specs.Patterns.{patterns_of}
 use Rattle.table.specs.Table.{table_grounds}
 use Rattle.rightness.specs.Test.{check_grounds}
 use Rattle.fit.specs.Table.{first_fit}
-use Rattle.hyphenation.specs.Calls.{room_grounds, margin_grounds, levels_grounds, hyphenate_grounds, answer_said, room_left, Answers, Levels, Breaks}
-use Rattle.hyphenation.specs.declared.Answer.{Answer}
+use Rattle.hyphenation.specs.Calls.{room_grounds, margin_grounds, levels_grounds, hyphenate_grounds, answer_said, room_left, Answers, Levels, Breaks, Answer}
 use Rattle.packer.specs.Pack.{pack_grounds, fit_bytes, packing_said, pack_said, pack_left, Packs}
 use Rattle.packer.specs.declared.Packing.{Packing}
 use Rattle.gauge.specs.Fit.{fit_grounds, fit_said, fit_answer}
 use Rattle.gauge.specs.declared.Gauge.{Gauge}
+use Rattle.base.specs.declared.Ground.{Ground}
 use Rattle.gauge.specs.declared.Fitting.{Fitting}
 use Rattle.states.specs.declared.TextState.{TextState}
 use Rattle.running.specs.Calls.{setting_grounds, piece_grounds, end_grounds, text_said, text_left, state_left, Gives, total_now, Pieces, Ends}
 use Rattle.running.specs.declared.Taken.{Taken}
 use Rattle.states.specs.State.{read_state}
 use Rattle.machine1980.specs.Run.{Outcome, RanOut, machine}
-use Rattle.machine1980.specs.Calls.{grounds1980, said1980, left_by, answer1980, room1980, Reprints}
+use Rattle.machine1980.specs.Calls.{grounds1980, said1980, left_by, answer1980, room1980, Reprints, Answer1980}
 use Rattle.machine1980.specs.Calls as reprint
-use Rattle.machine1980.specs.declared.Answer1980.{Answer1980}
 
 -- What demand 1 says of one answer of a call with this order of grounds.
 pub record Numbered (order : List ℕ) (grounds : List Row) (said : Said) : Type 0 where
@@ -130,7 +129,7 @@ pub fit_order_lem : (g : Gauge) (widths : List Float) (word : List ℕ) (size : 
 unfolding fit_grounds grounds_by
 fit_order_lem g widths word size = refl
 
-pub fit_numbered : (g : Gauge) (widths : List Float) (word room : List ℕ) (r : Fitting) → fit_said r ≡ fit_answer g widths word room → Numbered fit_order (fit_grounds g widths word (length room)) (fit_said r)
+pub fit_numbered : (g : Gauge) (widths : List Float) (word room : List ℕ) (r : Result Fitting Ground) → fit_said r ≡ fit_answer g widths word room → Numbered fit_order (fit_grounds g widths word (length room)) (fit_said r)
 unfolding fit_answer
 fit_numbered g widths word room r p = numbered fit_order _ _ (fit_said r) (fit_order_lem g widths word (length room)) p
 

@@ -6,7 +6,7 @@
 use base::Ground;
 use console::Stream;
 use judged::Judged;
-use running::TextAnswer;
+use running::Written;
 use states::TextState;
 use std::io::Read;
 
@@ -64,16 +64,16 @@ fn print_refused(rt: &HostRuntime, ground: Ground, fresh: bool) {
 fn follow(
     rt: &HostRuntime,
     state: TextState,
-    answer: TextAnswer,
+    answer: Result<Written, Ground>,
     room: &[u8],
     p: Progress,
 ) -> Progress {
     match answer {
-        TextAnswer::Written { length, looks: _ } => match write_text(rt, room, length, p.fresh) {
+        Ok(Written { length, looks: _ }) => match write_text(rt, room, length, p.fresh) {
             Some(fresh) => Progress { state, fresh, ..p },
             None => stop(p, Stage::Cut),
         },
-        TextAnswer::Refused(g) => {
+        Err(g) => {
             print_refused(rt, g, p.fresh);
             stop(p, Stage::Cut)
         }

@@ -13,9 +13,8 @@ use lib.ListN.{length, get_or}
 use lib.Ieee.{Float, nan, inf, fin, binary64, add, of_int, lt, is_nan}
 use lib.Ieee.Scale.{finite}
 use Rattle.base.specs.Limits.{room_size, word_limit, width_count}
-use Rattle.base.specs.Grounds.{plain, Finds, Refuses, Row, says, on, first_of, any_holds, one_of}
-use Rattle.base.specs.declared.Check.{Check}
-use Rattle.base.specs.declared.Check.TheVariants.{Fine, Refused}
+use Rattle.base.specs.Grounds.{plain, Finds, Refuses, Row, says, on, first_of, any_holds, one_of, Check}
+use Rattle.std.specs.Prelude.{Ok, Err, Result}
 use Rattle.base.proofs.Grounds.{Ordered, judged_by, said_found, said_refused_lem}
 use Rattle.base.proofs.Lists.{never, both, untrue}
 use Rattle.base.proofs.Order.{finds_exactly, last_exactly, none_found_lem}
@@ -27,6 +26,7 @@ use Rattle.gauge.specs.Widths.{zero_width, width_limit, bad_width, any_bad, lett
 use Rattle.gauge.specs.Fit.{is_marked, whole_fits, hyphen_fits, break_fits, last_of, whole_found, break_found, none_found, break_or_none, fit_values, given, fit_grounds, fit_said, fit_answer, judge_fit}
 use Rattle.gauge.specs.Strip.{IsBreak, LastFitting, NoneFitting, FirstMisfit, Outside, SomeOutside}
 use Rattle.gauge.specs.declared.Gauge.{Gauge}
+use Rattle.base.specs.declared.Ground.{Ground}
 use Rattle.gauge.specs.declared.Fitting.{Fitting}
 use Rattle.gauge.proofs.Order.{fit_ordered}
 use Rattle.gauge.proofs.Laws.{fit_judged}
@@ -227,7 +227,7 @@ module _ (g : Gauge) (widths : List Float) (word room : List ℕ) where
       back : NoneFitting g widths word room → last_of (break_fits g widths word room) (length word - 1) ≡ 0
       back n = last_once (break_fits g widths word room) (length word - 1) _ 0 (last_is (break_fits g widths word room) (length word - 1)) (λ j a b. fails j a (omega arith) (n j))
 
-  module _ (r : Fitting) (p : fit_said r ≡ fit_answer g widths word room) where
+  module _ (r : Result Fitting Ground) (p : fit_said r ≡ fit_answer g widths word room) where
     found : (l : List ℕ) → (fit_said r ≡ Finds l) ↔ (NoGround × (fit_values g widths word room ≡ l))
     unfolding fit_answer
     found l =
@@ -270,7 +270,7 @@ module _ (g : Gauge) (widths : List Float) (word room : List ℕ) where
 
   -- ---- What a call that isn't refused was given.
   module _ (fine : NoGround) where
-    judged : (judge_word word_limit word ≡ Fine) × (room_size ≤ length room) × (any_bad (given g widths) ≡ false)
+    judged : (judge_word word_limit word ≡ Ok tt) × (room_size ≤ length room) × (any_bad (given g widths) ≡ false)
     unfolding says
     judged = fit_judged g widths word (length room) (judged_by (fit_ordered g widths word (length room)) (sym (none_found_lem (fit_grounds g widths word (length room)) [] fine))) refl
 
@@ -341,8 +341,8 @@ symbol_at (b ∷ w) (suc i) = symbol_at w i
 
 -- judged alike and with equal values, two calls answer alike
 answers_alike : (c : Check) {rows more : List Row} (values : List ℕ) → Ordered c rows → Ordered c more → first_of (Finds values) rows ≡ first_of (Finds values) more
-answers_alike Fine values o p = said_found o values ∙ sym (said_found p values)
-answers_alike (Refused x) values o p = said_refused_lem o values ∙ sym (said_refused_lem p values)
+answers_alike (Ok _) values o p = said_found o values ∙ sym (said_found p values)
+answers_alike (Err x) values o p = said_refused_lem o values ∙ sym (said_refused_lem p values)
 
 module _ (g : Gauge) (widths : List Float) (word other room : List ℕ) (same-letters : map lower word ≡ map lower other) where
   widths_alike : (i : ℕ) → width_to widths word i ≡ width_to widths other i

@@ -2,9 +2,8 @@
 // packed, and the exception lists are judged.
 #![tactic(auto)]
 
-use base::Check;
+use base::Ground;
 use console::Stream;
-use packer::Packing;
 
 // How many files the arguments name.
 const FILES: usize = 3;
@@ -20,6 +19,18 @@ pub struct Judged<'a> {
     pub table: &'a [u8],
 }
 
+// Packs a pattern list into a room, and judges the exception lists.
+fn pack_judged(
+    patterns: &[u8],
+    customer: &[u8],
+    house: &[u8],
+    room: &mut [u8],
+) -> Result<usize, Ground> {
+    let size = packer::pack(patterns, room)?;
+    lists::judge_lists(customer, house)?;
+    Ok(size)
+}
+
 // Goes on with lists that aren't judged yet. Which of them is refused, and on what ground, is told.
 fn judge<F: FnOnce(&Judged)>(
     rt: &HostRuntime,
@@ -32,25 +43,17 @@ fn judge<F: FnOnce(&Judged)>(
     requires { F.IsAlwaysCallable go_on }
 {
     let mut room = [0u8; ROOM];
-    let packing = packer::pack(patterns, &mut room);
-    if let Packing::Refused(g) = packing {
-        console::print_refusal(rt, program, Stream::Output, g);
-        return;
-    }
-    let judged = lists::judge_lists(customer, house);
-    if let Check::Refused(g) = judged {
-        console::print_refusal(rt, program, Stream::Output, g);
-        return;
-    }
-    if let Packing::Done(size) = packing {
-        if size <= room.len() {
-            let table = &room[0..size];
-            go_on(&Judged {
-                customer,
-                house,
-                table,
-            });
+    match pack_judged(patterns, customer, house, &mut room) {
+        Ok(size) => {
+            if let Some(table) = room.get(..size) {
+                go_on(&Judged {
+                    customer,
+                    house,
+                    table,
+                });
+            }
         }
+        Err(g) => console::print_refusal(rt, program, Stream::Output, g),
     }
 }
 

@@ -9,7 +9,7 @@ use lib.Dec.{leb, ltb}
 use lib.ListN.{length, take}
 use Rattle.base.specs.Limits.{room_size1980, short_word1980, word_limit1980}
 use Rattle.base.specs.Grounds.{Finds}
-use Rattle.base.specs.declared.Check.TheVariants.{Refused}
+use Rattle.std.specs.Prelude.{Ok, Err, None}
 use Rattle.base.specs.declared.Ground.TheVariants.{RoomShort}
 use Rattle.words.specs.Words.{judge_letters}
 use Rattle.rooms.specs.Rooms.{is_short, sheet_from, sheet, written, nonzero, bit}
@@ -30,14 +30,13 @@ use Rattle.middle1980.specs.Joined as middle
 use Rattle.middle1980.specs.declared.Step.{Step}
 use Rattle.machine1980.specs.Run.{Outcome, RanOut, Marked, from_prefixes, from_suffixes, run, machine}
 use Rattle.machine1980.specs.Breaks.{shows, in_print, is_break, break_sheet}
-use Rattle.machine1980.specs.Calls.{judge1980, said1980, values_of, left_by}
+use Rattle.machine1980.specs.Calls.{judge1980, said1980, values_of, left_by, reprint}
 use Rattle.machine1980.specs.Post.{joined, Answered}
-use Rattle.machine1980.specs.declared.Answer1980.TheVariants as answers
 use Rattle.machine1980.specs.declared.Marks.{Marks}
 use Rattle.machine1980.specs.declared.Marks.TheVariants as marks
 
 -- the room's ground, then the word's
-pub judge_short : (word : List ℕ) (size : ℕ) {short : Bool} → short ≡ is_short room_size1980 size → short ≡ true → Refused RoomShort ≡ judge1980 word size
+pub judge_short : (word : List ℕ) (size : ℕ) {short : Bool} → short ≡ is_short room_size1980 size → short ≡ true → Err RoomShort ≡ judge1980 word size
 unfolding judge1980
 judge_short word size p q = rw (← p, q)
 
@@ -134,7 +133,7 @@ module _ (budget : ℕ) (word : List ℕ) (room : List ℕ) (long : short_word19
     came : joined m t ≡ machine budget word
     came = p ∙ ap (λ (l : List ℕ). run budget (length word) l) w ∙ sym ran
 
-    pub out_answered : m ≡ marks.Out → Answered budget word room answers.RanOut room
+    pub out_answered : m ≡ marks.Out → Answered budget word room (Ok None) room
     unfolding said1980 values_of left_by
     out_answered e =
         let q : RanOut ≡ machine budget word = ap (λ (x : Marks). joined x t) (sym e) ∙ came in
@@ -144,7 +143,7 @@ module _ (budget : ℕ) (word : List ℕ) (room : List ℕ) (long : short_word19
         }
 
     pub made_answered : (finale executed : ℕ) {after : List ℕ} {breaks : ℕ} → m ≡ marks.Made finale executed → after ≡ written room_size1980 (break_sheet (length word) finale t) room
-        → breaks ≡ nonzero (take room_size1980 after) → Answered budget word room (answers.Found breaks executed) after
+        → breaks ≡ nonzero (take room_size1980 after) → Answered budget word room (reprint breaks executed) after
     unfolding said1980 values_of left_by
     made_answered finale executed {after} {breaks} e a b =
         let q : Marked finale t executed ≡ machine budget word = ap (λ (x : Marks). joined x t) (sym e) ∙ came in
@@ -175,7 +174,7 @@ unfolding machine
 short_machine budget word h = rw (le-leb (length word) short_word1980 h)
 
 pub short_answered : (budget : ℕ) (word room : List ℕ) {after : List ℕ} → length word ≤ short_word1980 → after ≡ written room_size1980 (sheet room_size1980 (λ g. 0)) room
-    → Answered budget word room (answers.Found 0 0) after
+    → Answered budget word room (reprint 0 0) after
 unfolding said1980 values_of left_by
 short_answered budget word room h a =
     let b = no_breaks (length word) infinity (sheet_of word) h in

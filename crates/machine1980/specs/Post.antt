@@ -2,10 +2,9 @@
 use Rattle.std.specs.Prelude.{ℕ, List, ◌≡◌, length}
 use Rattle.base.specs.Grounds.{Finds}
 use Rattle.machine1980.specs.Run.{Outcome, RanOut, Marked, machine}
-use Rattle.machine1980.specs.Calls.{said1980, values_of, left_by}
+use Rattle.machine1980.specs.Calls.{said1980, values_of, left_by, Answer1980}
 use Rattle.machine1980.specs.declared.Marks.{Marks}
 use Rattle.machine1980.specs.declared.Marks.TheVariants.{Out, Made}
-use Rattle.machine1980.specs.declared.Answer1980.{Answer1980}
 
 -- What the code tells of a run, joined with the sheet that it leaves.
 abbrev pub joined : Marks → List ℕ → Outcome

@@ -4,7 +4,6 @@
 #![tactic(auto)]
 
 use console::Stream;
-use packer::Packing;
 use paths::PATH_MAX;
 
 // How many arguments there are at most, the program's name included: with so many, the last is the table file.
@@ -84,17 +83,13 @@ fn put_table(rt: &HostRuntime, table: &[u8]) -> bool {
 
 fn run(rt: &HostRuntime, patterns: &[u8]) {
     let mut room = [0u8; ROOM];
-    let packing = packer::pack(patterns, &mut room);
-    if let Packing::Refused(g) = packing {
-        console::print_refusal(rt, b"pack", refusals(rt), g);
-        return;
-    }
-    if let Packing::Done(size) = packing {
-        if size <= room.len() {
-            if !put_table(rt, &room[0..size]) {
+    match packer::pack(patterns, &mut room) {
+        Ok(size) => {
+            if size <= room.len() && !put_table(rt, &room[..size]) {
                 console::print_undone(rt, b"pack", refusals(rt));
             }
         }
+        Err(g) => console::print_refusal(rt, b"pack", refusals(rt), g),
     }
 }
 

@@ -8,7 +8,7 @@ ghost use Rattle.words.specs.Symbols.{line_feed, hyphen};
 ghost use Rattle.report.specs.Report.{list_field, told_line, refusal_line, sums_line, line_for, Reports};
 
 use base::Ground;
-use hyphenation::Answer;
+use hyphenation::Found;
 
 // Every line of a word fits into this many bytes (specs/Report.antt, line_limit).
 pub const LINE_LIMIT: usize = 2 * base::WORD_LIMIT + 2;
@@ -97,14 +97,13 @@ pub fn put_word<'a>(
     requires { at + length (line_for left right word.now customer.now house.now table.now (length marks.old)) ≤ length room.old }
     ensures { Reports left right word.now customer.now house.now table.now marks.old room.old at result marks.new room.new }
 {
-    let answer = hyphenation::hyphenate_word(left, right, word, customer, house, table, marks);
-    match answer {
-        Answer::Found { marks: _, looks } => Line {
+    match hyphenation::hyphenate_word(left, right, word, customer, house, table, marks) {
+        Ok(Found { marks: _, looks }) => Line {
             end: put_line(marks, word, room, at),
             summed: looks,
             refused: false,
         },
-        Answer::Refused(g) => Line {
+        Err(g) => Line {
             end: put_refusal(writing::QUESTION, g, room, at),
             summed: 0,
             refused: true,

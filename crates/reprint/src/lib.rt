@@ -4,7 +4,7 @@
 ghost use Rattle.std.specs.Prelude.{◌+◌, ◌≤◌, length};
 ghost use Rattle.reprint.specs.Reprint.{reprint_line, Reprinted};
 
-use machine1980::Answer1980;
+use machine1980::Reprint;
 use report::Line;
 
 // Every line of a word fits into this many bytes (specs/Reprint.antt, line_limit1980).
@@ -15,22 +15,21 @@ pub fn put_reprint(word: &[u8], marks: &mut [u8], room: &mut [u8], at: usize) ->
     requires { at + length (reprint_line word.now (length marks.old)) ≤ length room.old }
     ensures { Reprinted word.now marks.old room.old at result marks.new room.new }
 {
-    let answer = machine1980::hyphenate_1980(word, marks);
-    match answer {
-        Answer1980::Found {
+    match machine1980::hyphenate_1980(word, marks) {
+        Ok(Some(Reprint {
             breaks: _,
             executed,
-        } => Line {
+        })) => Line {
             end: report::put_line(marks, word, room, at),
             summed: executed,
             refused: false,
         },
-        Answer1980::RanOut => Line {
+        Ok(None) => Line {
             end: report::put_told(writing::QUESTION, 0, 0, 0, room, at),
             summed: 0,
             refused: true,
         },
-        Answer1980::Refused(g) => Line {
+        Err(g) => Line {
             end: report::put_refusal(writing::QUESTION, g, room, at),
             summed: 0, // the word is judged before anything runs
             refused: true, // on its ground

@@ -11,8 +11,8 @@ use lib.Dec.{ltb}
 use lib.ListN.{length, take, drop, replicate, length-append, length-replicate, drop_of_length-le}
 use lib.Seq.{sets-eq, length-take-le}
 use Rattle.base.specs.Limits.{held_limit, room_per_byte, running_text}
-use Rattle.base.specs.declared.Check.{Check}
-use Rattle.base.specs.declared.Check.TheVariants.{Fine, Refused}
+use Rattle.base.specs.Grounds.{Check}
+use Rattle.std.specs.Prelude.{Ok, Err}
 use Rattle.base.specs.declared.Ground.{Ground}
 use Rattle.base.specs.declared.Ground.TheVariants.{TextRoomShort, RunningLong}
 use Rattle.rooms.specs.Rooms.{is_short, filled}
@@ -29,8 +29,7 @@ use Rattle.flowing.specs.Post.{flow_held, Shows, Shaped, Ready, Flows}
 use Rattle.flowing.specs.declared.Flow.{Flow}
 use Rattle.flowing.specs.declared.Shown.{Shown}
 use Rattle.flowing.proofs.Steps.{bytes_are, held_can}
-use Rattle.running.specs.Calls.{passes_end, short_for, judge_setting, judge_piece, judge_end, PiecesDone, EndsDone}
-use Rattle.running.specs.declared.TextAnswer.TheVariants as answers
+use Rattle.running.specs.Calls.{passes_end, short_for, judge_setting, judge_piece, judge_end, PiecesDone, EndsDone, written}
 
 -- ground 21
 pub past_total : (total n : ℕ) → running_text < total → true ≡ passes_end total n
@@ -51,35 +50,35 @@ past_bound total n e = ltb-false running_text (total + n) e
 
 -- a piece's grounds, one behind the other
 module _ (left right : ℕ) (customer house table : List ℕ) (total held n size : ℕ) {c : Check} (p : c ≡ judge_setting left right customer house table) where
-  pub piece_setting : {g : Ground} → c ≡ Refused g → Refused g ≡ judge_piece left right customer house table total held n size
+  pub piece_setting : {g : Ground} → c ≡ Err g → Err g ≡ judge_piece left right customer house table total held n size
   unfolding judge_piece
   piece_setting q = rw (← p, q)
 
-  module _ (q : c ≡ Fine) {z : Bool} (e : z ≡ passes_end total n) where
-    pub piece_past : z ≡ true → Refused RunningLong ≡ judge_piece left right customer house table total held n size
+  module _ (q : c ≡ Ok tt) {z : Bool} (e : z ≡ passes_end total n) where
+    pub piece_past : z ≡ true → Err RunningLong ≡ judge_piece left right customer house table total held n size
     unfolding judge_piece
     piece_past f = rw (← p, q, ← e, f)
 
     module _ (f : z ≡ false) {y : Bool} (d : y ≡ is_short (room_per_byte * (held + n)) size) where
-      pub piece_room_lem : y ≡ true → Refused TextRoomShort ≡ judge_piece left right customer house table total held n size
+      pub piece_room_lem : y ≡ true → Err TextRoomShort ≡ judge_piece left right customer house table total held n size
       unfolding judge_piece short_for
       piece_room_lem g = rw (← p, q, ← e, f, ← d, g)
 
-      pub piece_fine : y ≡ false → Fine ≡ judge_piece left right customer house table total held n size
+      pub piece_fine : y ≡ false → (Ok tt) ≡ judge_piece left right customer house table total held n size
       unfolding judge_piece short_for
       piece_fine g = rw (← p, q, ← e, f, ← d, g)
 
 module _ (left right : ℕ) (customer house table : List ℕ) (held size : ℕ) {c : Check} (p : c ≡ judge_setting left right customer house table) where
-  pub end_setting : {g : Ground} → c ≡ Refused g → Refused g ≡ judge_end left right customer house table held size
+  pub end_setting : {g : Ground} → c ≡ Err g → Err g ≡ judge_end left right customer house table held size
   unfolding judge_end
   end_setting q = rw (← p, q)
 
-  module _ (q : c ≡ Fine) {y : Bool} (d : y ≡ is_short (room_per_byte * held) size) where
-    pub end_room_lem : y ≡ true → Refused TextRoomShort ≡ judge_end left right customer house table held size
+  module _ (q : c ≡ Ok tt) {y : Bool} (d : y ≡ is_short (room_per_byte * held) size) where
+    pub end_room_lem : y ≡ true → Err TextRoomShort ≡ judge_end left right customer house table held size
     unfolding judge_end short_for
     end_room_lem g = rw (← p, q, ← d, g)
 
-    pub end_fine : y ≡ false → Fine ≡ judge_end left right customer house table held size
+    pub end_fine : y ≡ false → (Ok tt) ≡ judge_end left right customer house table held size
     unfolding judge_end short_for
     end_fine g = rw (← p, q, ← d, g)
 
@@ -201,7 +200,7 @@ pub piece_done : (s : TextState) (left right : ℕ) (customer house table piece 
     → Flows left right customer house table piece (record { size = s.size; run = s.run; at = 0; looks = 0 }) s.held room f held_then after
     → cleaned ≡ filled held_limit (take f.size held_then) held_then
     → PiecesDone s left right customer house table piece room
-    (record { state = record { held = cleaned; size = f.size; run = f.run; total = s.total + length piece }; answer = answers.Written f.at f.looks }) after
+    (record { state = record { held = cleaned; size = f.size; run = f.run; total = s.total + length piece }; answer = written f.at f.looks }) after
 piece_done s left right customer house table piece room {f = f} {held_then = held_then} w c =
     let p = front (piece_text left right customer house table (held_in s) piece) room 0 f.at refl w.put in
     let k : f.looks ≡ piece_looks customer house table (held_in s) piece = w.looked ∙ zero-add (piece_looks customer house table (held_in s) piece) in
@@ -213,7 +212,7 @@ piece_done s left right customer house table piece room {f = f} {held_then = hel
 
 pub end_done : (held : List ℕ) (size left right : ℕ) (customer house table room : List ℕ) {shown : Shown} {after : List ℕ}
     → Shows (finished_text left right customer house table (take (size - 0) held)) (finished_looks customer house table (take (size - 0) held)) 0 room shown after
-    → EndsDone (take size held) left right customer house table room (answers.Written shown.end shown.looks) after
+    → EndsDone (take size held) left right customer house table room (written shown.end shown.looks) after
 end_done held size left right customer house table room {shown = shown} s =
     let e : take (size - 0) held ≡ take size held = ap (λ (k : ℕ). take k held) (sub-zero size) in
     let p = front (finished_text left right customer house table (take (size - 0) held)) room 0 shown.end refl s.put in

@@ -4,19 +4,16 @@ use Prim.Native.Nat.{ℕ, ◌+◌}
 use mathlib.Core.List.{List, [], ◌∷◌}
 use mathlib.Core.Path.{◌≡◌, sym, ◌∙◌, ap}
 use lib.ListN.{length}
-use Rattle.base.specs.Grounds.{Said, Row}
-use Rattle.base.specs.declared.Check.{Check}
-use Rattle.base.specs.declared.Check.TheVariants.{Fine, Refused}
+use Rattle.base.specs.Grounds.{Said, Row, Check}
+use Rattle.std.specs.Prelude.{Ok, Err}
 use Rattle.base.specs.declared.Ground.TheVariants.{TextRoomShort, RunningLong}
 use Rattle.base.proofs.Grounds.{Ordered, ordered_first, ordered_if, said_found, said_refused_lem, told_once, refuses_once, no_refusal}
 use Rattle.lists.proofs.Order.{lists_ordered}
 use Rattle.table.proofs.Order.{table_ordered}
 use Rattle.hyphenation.proofs.Order.{margins_ordered}
 use Rattle.states.specs.declared.TextState.{TextState}
-use Rattle.running.specs.Calls.{setting_grounds, passes_end, short_for, piece_grounds, end_grounds, text_said, written_or, text_left, state_left, Gives, judge_setting, judge_piece, judge_end, text_answer, text_after, state_after, Given}
+use Rattle.running.specs.Calls.{setting_grounds, passes_end, short_for, piece_grounds, end_grounds, text_said, written_or, text_left, state_left, Gives, judge_setting, judge_piece, judge_end, text_answer, text_after, state_after, Given, TextAnswer}
 use Rattle.running.specs.declared.Taken.{Taken}
-use Rattle.running.specs.declared.TextAnswer.{TextAnswer}
-use Rattle.running.specs.declared.TextAnswer.TheVariants as answers
 
 pub setting_ordered : (left right : ℕ) (customer house table : List ℕ) → Ordered (judge_setting left right customer house table) (setting_grounds left right customer house table)
 unfolding judge_setting setting_grounds
@@ -38,25 +35,25 @@ end_ordered left right customer house table held size =
 -- no two answers say the same
 answer_once : (r s : TextAnswer) → text_said r ≡ text_said s → r ≡ s
 unfolding text_said
-answer_once (answers.Written m l) (answers.Written n k) e = let a : m ≡ n = cc in let b : l ≡ k = cc in rw (a, b)
-answer_once (answers.Written m l) (answers.Refused h) e = no_refusal e
-answer_once (answers.Refused g) (answers.Written n k) e = no_refusal (sym e)
-answer_once (answers.Refused g) (answers.Refused h) e = ap answers.Refused (told_once g h (refuses_once e))
+answer_once (Ok w) (Ok w') e = let a : w.length ≡ w'.length = cc in let b : w.looks ≡ w'.looks = cc in rw (a, b)
+answer_once (Ok w) (Err h) e = no_refusal e
+answer_once (Err g) (Ok w) e = no_refusal (sym e)
+answer_once (Err g) (Err h) e = ap Err (told_once g h (refuses_once e))
 
 -- what is answered and left by a judgement is what its grounds say
 module _ (text : List ℕ) (looks : ℕ) {rows : List Row} where
   answer_said_lem : (judged : Check) → Ordered judged rows → text_said (text_answer judged text looks) ≡ written_or rows text looks
   unfolding text_said
-  answer_said_lem Fine o = sym (said_found o (length text ∷ looks ∷ []))
-  answer_said_lem (Refused g) o = sym (said_refused_lem o (length text ∷ looks ∷ []))
+  answer_said_lem (Ok _) o = sym (said_found o (length text ∷ looks ∷ []))
+  answer_said_lem (Err g) o = sym (said_refused_lem o (length text ∷ looks ∷ []))
 
   room_left_lem : (judged : Check) → Ordered judged rows → (room : List ℕ) → text_after judged text room ≡ text_left (written_or rows text looks) text room
-  room_left_lem Fine o room = ap (λ (s : Said). text_left s text room) (sym (said_found o (length text ∷ looks ∷ [])))
-  room_left_lem (Refused g) o room = ap (λ (s : Said). text_left s text room) (sym (said_refused_lem o (length text ∷ looks ∷ [])))
+  room_left_lem (Ok _) o room = ap (λ (s : Said). text_left s text room) (sym (said_found o (length text ∷ looks ∷ [])))
+  room_left_lem (Err g) o room = ap (λ (s : Said). text_left s text room) (sym (said_refused_lem o (length text ∷ looks ∷ [])))
 
   state_left_lem : (judged : Check) → Ordered judged rows → (given then : TextState) → state_after judged given then ≡ state_left (written_or rows text looks) given then
-  state_left_lem Fine o given then = ap (λ (s : Said). state_left s given then) (sym (said_found o (length text ∷ looks ∷ [])))
-  state_left_lem (Refused g) o given then = ap (λ (s : Said). state_left s given then) (sym (said_refused_lem o (length text ∷ looks ∷ [])))
+  state_left_lem (Ok _) o given then = ap (λ (s : Said). state_left s given then) (sym (said_found o (length text ∷ looks ∷ [])))
+  state_left_lem (Err g) o given then = ap (λ (s : Said). state_left s given then) (sym (said_refused_lem o (length text ∷ looks ∷ [])))
 
 -- from the promise by judgements to the one by grounds, and back
 module _ {judged : Check} {rows : List Row} (o : Ordered judged rows) {text : List ℕ} {looks : ℕ} {given then : TextState} {room : List ℕ} {r : Taken} {after : List ℕ} where

@@ -8,9 +8,8 @@ use borrow.Author.Tests.{eq-eqb, ne_eqb, le-leb, lt-leb}
 use lib.Dec.{leb}
 use lib.ListN.{length, get_or, take, drop, drop_of_length-le}
 use Rattle.base.specs.Limits.{word_limit, running_text}
-use Rattle.base.specs.declared.Check.{Check}
-use Rattle.base.specs.declared.Check.TheVariants.{Fine, Refused}
-use Rattle.base.specs.declared.Ground.{Ground}
+use Rattle.base.specs.Grounds.{Check}
+use Rattle.std.specs.Prelude.{is_ok}
 use Rattle.base.proofs.Lists.{cons_at}
 use Rattle.words.specs.Symbols.{apostrophe}
 use Rattle.words.specs.Words.{judge_word}
@@ -42,13 +41,9 @@ unfolding all_zero
 zero_end bytes from i h e = sym (e ∙ rw (drop_of_length-le bytes h))
 
 -- words
-pub word_yes : (w : List ℕ) {c : Check} → c ≡ judge_word word_limit w → c ≡ Fine → true ≡ is_word w
+pub word_as_judged : (w : List ℕ) {c : Check} → c ≡ judge_word word_limit w → is_ok c ≡ is_word w
 unfolding is_word
-word_yes w e f = rw (← e, f)
-
-pub word_not : (w : List ℕ) {c : Check} {g : Ground} → c ≡ judge_word word_limit w → c ≡ Refused g → false ≡ is_word w
-unfolding is_word
-word_not w e f = rw (← e, f)
+word_as_judged w e = ap is_ok e
 
 -- what can be held
 pub held_none : (kept : List ℕ) → length kept ≡ 0 → true ≡ can_be_held kept

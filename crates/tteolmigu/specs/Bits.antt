@@ -1,18 +1,14 @@
 -- How an answer stands in the 64 bits that a C function returns. include/tteolmigu.h says the same to a reader of C.
-use Rattle.std.specs.Prelude.{ℕ, ◌+◌, ◌*◌, ◌-◌, ◌/◌, ◌%◌, ◌^◌, List, get_or}
+use Rattle.std.specs.Prelude.{ℕ, ◌+◌, ◌*◌, ◌-◌, ◌/◌, ◌%◌, ◌^◌, List, get_or, Ok, Err}
 use Rattle.base.specs.Limits.{customer_list, house_list}
-use Rattle.base.specs.Grounds.{told, Said, Finds, Refuses}
-use Rattle.base.specs.declared.Check.{Check}
-use Rattle.base.specs.declared.Check.TheVariants as checks
+use Rattle.base.specs.Grounds.{told, Said, Finds, Refuses, Check}
 use Rattle.base.specs.declared.Ground.{Ground}
 use Rattle.lookup.specs.declared.Located.{Located}
 use Rattle.lookup.specs.declared.Located.TheVariants.{Customer, House, Nowhere}
-use Rattle.hyphenation.specs.declared.Answer.{Answer}
-use Rattle.hyphenation.specs.declared.Answer.TheVariants as answers
+use Rattle.hyphenation.specs.Calls.{Answer, found}
 use Rattle.states.specs.Bytes.{state_bytes}
 use Rattle.states.specs.declared.TextState.{TextState}
-use Rattle.running.specs.declared.TextAnswer.{TextAnswer}
-use Rattle.running.specs.declared.TextAnswer.TheVariants as texts
+use Rattle.running.specs.Calls.{TextAnswer, written}
 use Rattle.packer.specs.declared.Packing.{Packing}
 use Rattle.packer.specs.declared.Packing.TheVariants as packings
 
@@ -36,8 +32,8 @@ abbrev pub line_bits : ℕ → ℕ → ℕ → ℕ
 line_bits list start end = bits_at 48 8 list + bits_at 16 32 start + bits_at 0 16 (end - start)
 
 abbrev pub answer_bits : Answer → ℕ
-answer_bits (answers.Found marks looks) = found_bits marks looks
-answer_bits (answers.Refused g) = refusal_bits g
+answer_bits (Ok f) = found_bits f.marks f.looks
+answer_bits (Err g) = refusal_bits g
 
 -- Pack: bits 0 to 47 the length.
 abbrev pub packing_bits : Packing → ℕ
@@ -76,13 +72,13 @@ abbrev pub written_bits : ℕ → ℕ → ℕ
 written_bits length looks = bits_at 32 24 length + bits_at 0 32 looks
 
 abbrev pub text_bits : TextAnswer → ℕ
-text_bits (texts.Written length looks) = written_bits length looks
-text_bits (texts.Refused g) = refusal_bits g
+text_bits (Ok w) = written_bits w.length w.looks
+text_bits (Err g) = refusal_bits g
 
 -- The state's bytes behind such a call: those of the state that it leaves; refused, "nothing is taken or written".
 abbrev pub bytes_left : TextAnswer → List ℕ → TextState → List ℕ
-bytes_left (texts.Written length looks) bytes then = state_bytes then
-bytes_left (texts.Refused g) bytes then = bytes
+bytes_left (Ok w) bytes then = state_bytes then
+bytes_left (Err g) bytes then = bytes
 
 -- What the header's accessors read of a returned number.
 abbrev pub read_bits : ℕ → ℕ → ℕ → ℕ

@@ -1,6 +1,5 @@
 use mathlib.Core.Path.{◌∙◌, ap, sym}
-use Rattle.machine1980.specs.Calls.{said1980}
-use Rattle.machine1980.specs.declared.Answer1980.{Answer1980}
+use Rattle.machine1980.specs.Calls.{said1980, Answer1980}
 use Rattle.tteolmigu.specs.Bits.{bits1980}
 use Rattle.tteolmigu.proofs.bits_1980.Goals as goal
 
