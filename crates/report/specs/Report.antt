@@ -57,6 +57,6 @@ line_for left right word customer house table size = word_line (word_answer left
 -- What is put and returned for a word where margins, lists and table were judged before.
 pub record Reports (left right : ℕ) (word customer house table marks room : List ℕ) (at : ℕ) (r : Line) (marks_after after : List ℕ) : Type 0 where
   pub line : Put (line_for left right word customer house table (length marks)) at room r.end after
-  pub looked : r.looks ≡ looks_of (word_answer left right word customer house table (length marks))
+  pub looked : r.summed ≡ looks_of (word_answer left right word customer house table (length marks))
   pub told : r.refused ≡ is_refused (word_answer left right word customer house table (length marks))
   pub memory : marks_after ≡ room_after (judge_word_alone word (length marks)) (breaks_sheet left right word customer house table) marks

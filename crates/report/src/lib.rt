@@ -13,11 +13,11 @@ use hyphenation::Found;
 // Every line of a word fits into this many bytes (specs/Report.antt, line_limit).
 pub const LINE_LIMIT: usize = 2 * base::WORD_LIMIT + 2;
 
-// What came of a word: where its line ends, how many cells were looked at, and whether it was refused.
+// What came of a word: where its line ends, what it adds to the program's sum, and whether it was refused.
 #[derive(Clone, Copy)]
 pub struct Line {
     pub end: usize,
-    pub looks: usize,
+    pub summed: usize,
     pub refused: bool,
 }
 
@@ -100,12 +100,12 @@ pub fn put_word<'a>(
     match hyphenation::hyphenate_word(left, right, word, customer, house, table, marks) {
         Ok(Found { looks, .. }) => Line {
             end: put_line(marks, word, room, at),
-            looks,
+            summed: looks,
             refused: false,
         },
         Err(g) => Line {
             end: put_refusal(writing::QUESTION, g, room, at),
-            looks: 0,
+            summed: 0,
             refused: true,
         },
     }

@@ -124,7 +124,7 @@ module _ (word marks : List ℕ) {r : Answer1980} {after : List ℕ} (promise : 
     found_fits at n h = rw found_line h
 
     pub found_reprinted : {at end : ℕ} {room filled : List ℕ} → Put (hyphenated (hyphen ∷ []) after word ++ (line_feed ∷ [])) at room end filled
-        → Reprinted word marks room at (record { end = end; executed = executed; refused = false }) after filled
+        → Reprinted word marks room at (record { end = end; summed = executed; refused = false }) after filled
     found_reprinted p =
         record {
           line = put_as (sym found_line) p;
@@ -145,7 +145,7 @@ module _ (word marks : List ℕ) {r : Answer1980} {after : List ℕ} (promise : 
     out_fits at n h = rw (← out_said, out) at h
 
     pub out_reprinted : {at end : ℕ} {room filled : List ℕ} → Put (told_line question 0 0 0) at room end filled
-        → Reprinted word marks room at (record { end = end; executed = 0; refused = true }) after filled
+        → Reprinted word marks room at (record { end = end; summed = 0; refused = true }) after filled
     out_reprinted p =
         record {
           line = put_as (rw (← out_said, out)) p;
@@ -163,7 +163,7 @@ module _ (word marks : List ℕ) {r : Answer1980} {after : List ℕ} (promise : 
     refused_fits at n h = rw (← refused_said) at h
 
     pub refused_reprinted : {at end : ℕ} {room filled : List ℕ} → Put (refusal_line question g) at room end filled
-        → Reprinted word marks room at (record { end = end; executed = 0; refused = true }) after filled
+        → Reprinted word marks room at (record { end = end; summed = 0; refused = true }) after filled
     refused_reprinted p =
         record {
           line = put_as (rw (← refused_said)) p;

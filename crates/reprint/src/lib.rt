@@ -5,17 +5,10 @@ ghost use Rattle.std.specs.Prelude.{◌+◌, ◌≤◌, length};
 ghost use Rattle.reprint.specs.Reprint.{reprint_line, Reprinted};
 
 use machine1980::Reprint;
+use report::Line;
 
 // Every line of a word fits into this many bytes (specs/Reprint.antt, line_limit1980).
 pub const LINE_LIMIT_1980: usize = 2 * base::WORD_LIMIT_1980 + 2;
-
-// What came of a word: where its line ends, how many instructions were executed, and whether it was refused.
-#[derive(Clone, Copy)]
-pub struct Line {
-    pub end: usize,
-    pub executed: usize,
-    pub refused: bool,
-}
 
 // The line of a word. `marks` is a break room. No word runs out of instructions; where one did, its line would tell no ground.
 pub fn put_reprint(word: &[u8], marks: &mut [u8], room: &mut [u8], at: usize) -> Line
@@ -27,7 +20,7 @@ pub fn put_reprint(word: &[u8], marks: &mut [u8], room: &mut [u8], at: usize) ->
         Err(g) => {
             return Line {
                 end: report::put_refusal(writing::QUESTION, g, room, at),
-                executed: 0, // the word is judged before anything runs
+                summed: 0, // the word is judged before anything runs
                 refused: true, // on its ground
             };
         }
@@ -35,12 +28,12 @@ pub fn put_reprint(word: &[u8], marks: &mut [u8], room: &mut [u8], at: usize) ->
     match found {
         Some(Reprint { executed, .. }) => Line {
             end: report::put_line(marks, word, room, at),
-            executed,
+            summed: executed,
             refused: false,
         },
         None => Line {
             end: report::put_told(writing::QUESTION, 0, 0, 0, room, at),
-            executed: 0,
+            summed: 0,
             refused: true,
         },
     }
