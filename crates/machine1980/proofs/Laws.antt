@@ -7,6 +7,7 @@ use native.Mathlib.Omega.{arith}
 use borrow.Author.Tests.{lt-ltb, le-ltb, lt-leb, le-leb, eq-eqb, ne_eqb, ltb-true, ltb-false}
 use lib.Dec.{leb, ltb}
 use lib.ListN.{length, take}
+use Rattle.std.specs.Prelude.{Option, Some, None}
 use Rattle.base.specs.Limits.{room_size1980, short_word1980, word_limit1980}
 use Rattle.base.specs.Grounds.{Finds}
 use Rattle.base.specs.declared.Check.TheVariants.{Refused}
@@ -15,15 +16,12 @@ use Rattle.words.specs.Words.{judge_letters}
 use Rattle.rooms.specs.Rooms.{is_short, sheet_from, sheet, written, nonzero, bit}
 use Rattle.rooms.proofs.Sheets.{sheet_same, written_take}
 use Rattle.sheet1980.specs.Sheet.{u, mem, sheet_of, Sheet}
+use Rattle.sheet1980.specs.declared.Stopped.{Stopped}
 use Rattle.suffix1980.specs.Suffixes.{infinity, sufbegin, phase2}
 use Rattle.suffix1980.specs.Joined as suffixes
-use Rattle.suffix1980.specs.declared.Ran as suffix-ran
-use Rattle.suffix1980.specs.declared.Ran.TheVariants as sran
 use Rattle.suffix1980.proofs.Budget as suffix-budget
 use Rattle.prefix1980.specs.Prefixes.{restartp, phase3}
 use Rattle.prefix1980.specs.Joined as prefixes
-use Rattle.prefix1980.specs.declared.Ran as prefix-ran
-use Rattle.prefix1980.specs.declared.Ran.TheVariants as pran
 use Rattle.prefix1980.proofs.Budget as prefix-budget
 use Rattle.middle1980.specs.Middles.{phase4}
 use Rattle.middle1980.specs.Joined as middle
@@ -46,41 +44,41 @@ unfolding judge1980
 judge_on word size p q = rw (← p, q)
 
 -- phase 2 and what follows it
-module _ (budget n : ℕ) (s after : List ℕ) {r : suffix-ran.Ran} (p : suffixes.told r after ≡ phase2 budget n s) where
-  pub suffix_out : r ≡ sran.Out → RanOut ≡ run budget n s
+module _ (budget n : ℕ) (s after : List ℕ) {r : Option (Stopped ℕ)} (p : suffixes.told r after ≡ phase2 budget n s) where
+  pub suffix_out : r ≡ None → RanOut ≡ run budget n s
   unfolding run from_suffixes
-  suffix_out e = ap (from_suffixes budget n) (ap (λ (x : suffix-ran.Ran). suffixes.told x after) (sym e) ∙ p)
+  suffix_out e = ap (from_suffixes budget n) (ap (λ (x : Option (Stopped ℕ)). suffixes.told x after) (sym e) ∙ p)
 
-  module _ (left finale : ℕ) (e : r ≡ sran.Stopped left finale) where
+  module _ (left finale : ℕ) (e : r ≡ Some (record { left = left; next = finale })) where
     pub suffix_on : (m : Marks) (t : List ℕ) → joined m t ≡ from_prefixes budget n finale (phase3 left after) → joined m t ≡ run budget n s
     unfolding run from_suffixes
-    suffix_on m t q = q ∙ ap (from_suffixes budget n) (ap (λ (x : suffix-ran.Ran). suffixes.told x after) (sym e) ∙ p)
+    suffix_on m t q = q ∙ ap (from_suffixes budget n) (ap (λ (x : Option (Stopped ℕ)). suffixes.told x after) (sym e) ∙ p)
 
     pub suffix_rest : left ≤ budget
     unfolding phase2
     suffix_rest =
-        omega (arith, ap suffix-budget.left_of (ap (λ (x : suffix-ran.Ran). suffixes.told x after) (sym e) ∙ p), suffix-budget.left_within budget n (sufbegin (u + n - 1) true infinity s))
+        omega (arith, ap suffix-budget.left_of (ap (λ (x : Option (Stopped ℕ)). suffixes.told x after) (sym e) ∙ p), suffix-budget.left_within budget n (sufbegin (u + n - 1) true infinity s))
 
     pub suffix_sheet : suffixes.Ready n r after → Sheet n after
-    suffix_sheet k = subst (λ (x : suffix-ran.Ran). suffixes.Ready n x after) e k
+    suffix_sheet k = subst (λ (x : Option (Stopped ℕ)). suffixes.Ready n x after) e k
 
 -- phase 3 and what follows it
-module _ (budget left finale n : ℕ) (s after : List ℕ) {r : prefix-ran.Ran} (p : prefixes.told r after ≡ phase3 left s) where
-  pub prefix_out : r ≡ pran.Out → RanOut ≡ from_prefixes budget n finale (phase3 left s)
+module _ (budget left finale n : ℕ) (s after : List ℕ) {r : Option (Stopped Step)} (p : prefixes.told r after ≡ phase3 left s) where
+  pub prefix_out : r ≡ None → RanOut ≡ from_prefixes budget n finale (phase3 left s)
   unfolding from_prefixes
-  prefix_out e = ap (from_prefixes budget n finale) (ap (λ (x : prefix-ran.Ran). prefixes.told x after) (sym e) ∙ p)
+  prefix_out e = ap (from_prefixes budget n finale) (ap (λ (x : Option (Stopped Step)). prefixes.told x after) (sym e) ∙ p)
 
-  module _ (rest : ℕ) (step : Step) (e : r ≡ pran.Stopped rest step) where
+  module _ (rest : ℕ) (step : Step) (e : r ≡ Some (record { left = rest; next = step })) where
     pub prefix_on : {t : List ℕ} → t ≡ phase4 n finale (middle.joined step after) → Marked finale t (budget - rest) ≡ from_prefixes budget n finale (phase3 left s)
     unfolding from_prefixes
-    prefix_on q = ap (λ (l : List ℕ). Marked finale l (budget - rest)) q ∙ ap (from_prefixes budget n finale) (ap (λ (x : prefix-ran.Ran). prefixes.told x after) (sym e) ∙ p)
+    prefix_on q = ap (λ (l : List ℕ). Marked finale l (budget - rest)) q ∙ ap (from_prefixes budget n finale) (ap (λ (x : Option (Stopped Step)). prefixes.told x after) (sym e) ∙ p)
 
     pub prefix_rest : rest ≤ left
     unfolding phase3
-    prefix_rest = omega (arith, ap prefix-budget.left_of (ap (λ (x : prefix-ran.Ran). prefixes.told x after) (sym e) ∙ p), prefix-budget.left_within left (restartp (u + 2) (mem s (u + 1)) s))
+    prefix_rest = omega (arith, ap prefix-budget.left_of (ap (λ (x : Option (Stopped Step)). prefixes.told x after) (sym e) ∙ p), prefix-budget.left_within left (restartp (u + 2) (mem s (u + 1)) s))
 
     pub prefix_ready : prefixes.Ready n r after → Sheet n after × middle.Placed n step
-    prefix_ready k = subst (λ (x : prefix-ran.Ran). prefixes.Ready n x after) e k
+    prefix_ready k = subst (λ (x : Option (Stopped Step)). prefixes.Ready n x after) e k
 
 -- does a hyphen show?
 module _ (finale : ℕ) (s : List ℕ) (k : ℕ) {c : ℕ} (p : c ≡ mem s (u + k)) where

@@ -15,6 +15,7 @@ ghost use Rattle.machine1980.specs.Calls.{grounds1980, Reprints};
 ghost use Rattle.machine1980.specs.Post.{joined, Answered};
 
 use base::{Check, Ground};
+use sheet1980::Stopped;
 
 // What the call answers: how many breaks it put into the room and how many instructions were executed; that one more instruction is
 // needed than there is budget for; or why it refuses.
@@ -61,8 +62,13 @@ fn run_on(budget: usize, left: usize, finale: usize, n: usize, sheet: &mut [u8])
     ensures { joined result sheet.new ≡ from_prefixes budget n finale (phase3 left sheet.old) }
 {
     match prefix1980::remove_prefixes(left, n, sheet) {
-        prefix1980::Ran::Out => Marks::Out,
-        prefix1980::Ran::Stopped { left: rest, step } => {
+        None => Marks::Out,
+        Some(
+            Stopped {
+                left: rest,
+                next: step,
+            },
+        ) => {
             middle1980::mark_middle(finale, n, step, sheet);
             Marks::Made {
                 finale,
@@ -78,8 +84,8 @@ fn run_machine(budget: usize, n: usize, sheet: &mut [u8]) -> Marks
     ensures { joined result sheet.new ≡ run budget n sheet.old }
 {
     match suffix1980::remove_suffixes(budget, n, sheet) {
-        suffix1980::Ran::Out => Marks::Out,
-        suffix1980::Ran::Stopped { left, finale } => run_on(budget, left, finale, n, sheet),
+        None => Marks::Out,
+        Some(Stopped { left, next: finale }) => run_on(budget, left, finale, n, sheet),
     }
 }
 
