@@ -40,9 +40,7 @@ fn count_block(block: &[u8]) -> usize
 {
     let mut count: u8 = 0;
     for b in block {
-        if *b != 0 {
-            count += 1;
-        }
+        count += u8::from(*b != 0);
     }
     count as usize
 }
