@@ -4,28 +4,32 @@ use mathlib.Core.List.{List, [], ◌∷◌, ◌++◌}
 use mathlib.Core.Path.{◌≡◌, refl, sym, ◌∙◌, ap}
 use Prim.Native.Nat.{ℕ}
 use lib.Dec.{eqb}
-use Rattle.base.specs.Grounds.{Told, told, Said, Finds, Refuses, says, Row, first_of, first, refuse_if}
-use Rattle.base.specs.declared.Check.{Check}
-use Rattle.base.specs.declared.Check.TheVariants.{Fine, Refused}
+use Rattle.base.specs.Grounds.{Told, told, Said, Finds, Refuses, says, Row, first_of, first, refuse_if, Check}
+use Rattle.std.specs.Prelude.{Result, Ok, Err, IsErrAnd}
+use Rattle.std.proofs.lemmas.Result.{err_from_is_err_and}
 use Rattle.base.specs.declared.Ground.{Ground}
 use Rattle.base.specs.declared.Ground.TheVariants.{Margin, WordEmpty, NotLetter, WordLong, RoomShort, BadException, BadPattern, TextLong, TableForm, PackRoomShort, NoFit, NotRight, BadWidth, TextRoomShort, RunningLong}
 use Rattle.base.proofs.Lists.{clash}
 
 -- a judgement that is fine hands on to the next; the first refusal is the answer
 module _ {a : Check} (b : Check) {r : Check} (p : r ≡ a) where
-  pub pass : r ≡ Fine → first a b ≡ b
+  pub pass : r ≡ Ok tt → first a b ≡ b
   pass q = rw (← p, q)
 
-  pub stop : {g : Ground} → r ≡ Refused g → first a b ≡ Refused g
+  pub stop : {g : Ground} → r ≡ Err g → first a b ≡ Err g
   stop q = rw (← p, q)
 
+-- What leaves a function at a `?` is the refusal of the judgement asked there.
+pub handed_on : {T : Type 0} (r : Result T Ground) {g : Ground} → IsErrAnd r (λ e. e ≡ g) → r ≡ Err g
+handed_on r h = let p = err_from_is_err_and r h in p.1 ∙ ap Err p.2
+
 -- what it says of the parts that judgements in order are fine
-pub both_fine : (a b : Check) → first a b ≡ Fine → (a ≡ Fine) × (b ≡ Fine)
-both_fine Fine b e = (refl, e)
-both_fine (Refused g) b e = clash cc
+pub both_fine : (a b : Check) → first a b ≡ Ok tt → (a ≡ Ok tt) × (b ≡ Ok tt)
+both_fine (Ok _) b e = (refl, e)
+both_fine (Err g) b e = clash cc
 
 -- a test that fails refuses nothing
-pub not_refused : (t : Bool) (g : Ground) → refuse_if t g ≡ Fine → t ≡ false
+pub not_refused : (t : Bool) (g : Ground) → refuse_if t g ≡ Ok tt → t ≡ false
 not_refused false g e = refl
 not_refused true g e = clash cc
 
@@ -82,10 +86,10 @@ no_refusal e = clash cc
 
 pub says_once : (r s : Check) → says r ≡ says s → r ≡ s
 unfolding says
-says_once Fine Fine e = refl
-says_once Fine (Refused h) e = no_refusal e
-says_once (Refused g) Fine e = no_refusal (sym e)
-says_once (Refused g) (Refused h) e = ap Refused (told_once g h (refuses_once e))
+says_once (Ok _) (Ok _) e = refl
+says_once (Ok _) (Err h) e = no_refusal e
+says_once (Err g) (Ok _) e = no_refusal (sym e)
+says_once (Err g) (Err h) e = ap Err (told_once g h (refuses_once e))
 
 -- A judgement and the order of its grounds, which say the same: from the one to the other, and back.
 pub record Ordered (judged : Check) (rows : List Row) : Type 0 where
@@ -119,11 +123,11 @@ refused_alike (row ∷ rows) values e = go row.holds e (refused_alike rows value
     go true p next = p
     go false p next = next p
 
-pub said_found : {rows : List Row} → Ordered Fine rows → (values : List ℕ) → first_of (Finds values) rows ≡ Finds values
+pub said_found : {rows : List Row} → Ordered (Ok tt) rows → (values : List ℕ) → first_of (Finds values) rows ≡ Finds values
 unfolding says
 said_found {rows} o values = found_as rows values (sym o.same)
 
-pub said_refused_lem : {g : Ground} {rows : List Row} → Ordered (Refused g) rows → (values : List ℕ) → first_of (Finds values) rows ≡ Refuses (told g)
+pub said_refused_lem : {g : Ground} {rows : List Row} → Ordered (Err g) rows → (values : List ℕ) → first_of (Finds values) rows ≡ Refuses (told g)
 unfolding says
 said_refused_lem {rows = rows} o values = refused_alike rows values (sym o.same)
 
@@ -134,8 +138,8 @@ either (Refuses t) next = Refuses t
 
 said_first : (a b : Check) → says (first a b) ≡ either (says a) (says b)
 unfolding says either
-said_first Fine b = refl
-said_first (Refused g) b = refl
+said_first (Ok _) b = refl
+said_first (Err g) b = refl
 
 rows_first : (rows more : List Row) → first_of (Finds []) (rows ++ more) ≡ either (first_of (Finds []) rows) (first_of (Finds []) more)
 unfolding first_of either

@@ -1,7 +1,5 @@
 -- The grounds of a refusal with their numbers and places, and refusals in order.
-use Rattle.std.specs.Prelude.{ℕ, Bool, true, false, cond, ◌||◌, List, [], ◌∷◌, map, eqb}
-use Rattle.base.specs.declared.Check.{Check}
-use Rattle.base.specs.declared.Check.TheVariants.{Fine, Refused}
+use Rattle.std.specs.Prelude.{ℕ, Bool, true, false, cond, ◌||◌, List, [], ◌∷◌, map, eqb, ⊤, Result, Ok, Err}
 use Rattle.base.specs.declared.Ground.{Ground}
 use Rattle.base.specs.declared.Ground.TheVariants.{Margin, WordEmpty, NotLetter, WordLong, RoomShort, BadException, BadPattern, TextLong, TableForm, PackRoomShort, NoFit, NotRight, BadWidth, TextRoomShort, RunningLong}
 
@@ -45,10 +43,14 @@ pub data Said : Type 0 where
   Finds : List ℕ → Said
   Refuses : Told → Said
 
--- What a judgement says: nothing against it, or why not.
+-- A judgement: nothing stands against what is judged, or why it is refused.
+abbrev pub Check : Type 0
+Check = Result ⊤ Ground
+
+-- What a judgement says.
 unfoldable pub says : Check → Said
-says Fine = Finds []
-says (Refused g) = Refuses (told g)
+says (Ok _) = Finds []
+says (Err g) = Refuses (told g)
 
 -- One ground in the order of a call: whether it holds, and what it then tells.
 pub record Row : Type 0 where
@@ -90,9 +92,9 @@ one_of n (m ∷ rest) = eqb n m || one_of n rest
 
 -- Two judgements in order: the first refusal is the answer.
 abbrev pub first : Check → Check → Check
-first Fine next = next
-first (Refused g) next = Refused g
+first (Ok _) next = next
+first (Err g) next = Err g
 
 -- Refused on a ground where a test holds.
 abbrev pub refuse_if : Bool → Ground → Check
-refuse_if test g = cond test (Refused g) Fine
+refuse_if test g = cond test (Err g) (Ok tt)

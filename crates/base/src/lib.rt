@@ -77,13 +77,6 @@ pub enum Ground {
     RunningLong,
 }
 
-// What a judgement says: nothing against it, or why not.
-#[derive(Clone, Copy)]
-pub enum Check {
-    Fine,
-    Refused(Ground),
-}
-
 // The number by which the customer knows a ground.
 pub fn number_of(ground: Ground) -> usize
     ensures { result ≡ (told ground).number }

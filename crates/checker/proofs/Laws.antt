@@ -12,7 +12,7 @@ use lib.ListN.{length, get_or, take, drop, replicate, get_or-replicate, drop_of_
 use lib.Seq.{take-nil}
 use Rattle.base.specs.Limits.{symbol_limit, pattern_limit, level_limit, room_size}
 use Rattle.base.specs.Grounds.{refuse_if}
-use Rattle.base.specs.declared.Check.TheVariants.{Fine, Refused}
+use Rattle.std.specs.Prelude.{Ok, Err, Some, None, Option}
 use Rattle.base.specs.declared.Ground.TheVariants.{NotRight}
 use Rattle.base.proofs.Lists.{cons_at, both}
 use Rattle.words.specs.Symbols.{small, digit, symbol_of, symbols_of}
@@ -21,17 +21,13 @@ use Rattle.lines.specs.Lines.{cut, line_length, any_of, line_letter, pattern_for
 use Rattle.lines.proofs.Laws.{cut_line, line_size, line_starts, line_ends, end_out}
 use Rattle.lists.specs.Lists.{good_line, first_bad, judge_lines}
 use Rattle.lists.specs.declared.Form.TheVariants.{Patterns}
-use Rattle.lists.specs.declared.Lines.TheVariants.{Good}
 use Rattle.lists.proofs.Theorems.{Passed, passed}
 use Rattle.liang.specs.Patterns.{levels_from, pattern_of, patterns_of}
 use Rattle.patterns.specs.Common.{common}
 use Rattle.patterns.specs.Post.{Parts}
 use Rattle.patterns.proofs.Laws.{rest_skip, rest_keep, rest_end, levels_digit, levels_symbol, levels_other, levels_end, line_levels, common_none}
-use Rattle.table.specs.declared.Look.{Look}
-use Rattle.table.specs.declared.Look.TheVariants.{Hit, Miss}
-use Rattle.table.specs.Table.{root_base, cell_kind, entry_kind, cell_size, entry_size, cell_count, entry_count, cells_of, entries_of, entry_at, look}
 use Rattle.table.specs.declared.Entry.{Entry}
-use Rattle.table.specs.declared.Entry.TheVariants.{Has, Stop}
+use Rattle.table.specs.Table.{Look, hit, root_base, cell_kind, entry_kind, cell_size, entry_size, cell_count, entry_count, cells_of, entries_of, entry_at, look, has}
 use Rattle.walk.specs.Chain.{chain}
 use Rattle.walk.specs.Raise.{highest_set, raise_all}
 use Rattle.walk.proofs.Raised.{raised_at, chain_moved}
@@ -63,14 +59,14 @@ module _ (size kind : ℕ) (bytes : List ℕ) (at n count : ℕ) where
   kinds_end h = let e : count - n ≡ 0 = omega arith in rw e
 
 -- a faultless chain's equation, whatever bound its numbers are given
-step_agrees : (f g : ℕ → Bool) (m k : ℕ) → ((j : ℕ) → j < k → f j ≡ g j) → (e : Entry) → sound_step f m k e ≡ sound_step g m k e
+step_agrees : (f g : ℕ → Bool) (m k : ℕ) → ((j : ℕ) → j < k → f j ≡ g j) → (e : Option Entry) → sound_step f m k e ≡ sound_step g m k e
 unfolding sound_step
-step_agrees f g m k h Stop = refl
-step_agrees f g m k h (Has d l next) = go (ltb next k) refl
+step_agrees f g m k h None = refl
+step_agrees f g m k h (Some entry) = go (ltb entry.next k) refl
   where
-    go : (z : Bool) → ltb next k ≡ z
-        → ((leb 1 l && leb l level_limit) && (leb d m && (z && f next))) ≡ ((leb 1 l && leb l level_limit) && (leb d m && (z && g next)))
-    go true p = ap (λ (r : Bool). (leb 1 l && leb l level_limit) && (leb d m && (true && r))) (h next (ltb-true next k p))
+    go : (z : Bool) → ltb entry.next k ≡ z
+        → ((leb 1 entry.level && leb entry.level level_limit) && (leb entry.distance m && (z && f entry.next))) ≡ ((leb 1 entry.level && leb entry.level level_limit) && (leb entry.distance m && (z && g entry.next)))
+    go true p = ap (λ (r : Bool). (leb 1 entry.level && leb entry.level level_limit) && (leb entry.distance m && (true && r))) (h entry.next (ltb-true entry.next k p))
     go false p = refl
 
 none_sound : (entries : List ℕ) (m : ℕ) (onward : Bool) (k : ℕ) → k ≡ 0 → eqb k 0 ≡ cond (eqb k 0) true onward
@@ -96,12 +92,12 @@ sound_turn entries m (suc k) h =
     rw (ne_eqb (suc k) 0 h)
     (step_agrees (λ j. sound_from entries m k j) (λ j. sound_from entries m j j) m (suc k) (λ j i. sound_bound entries m k j j (omega arith) (omega arith)) (entry_at entries (suc k)))
 
-module _ (entries : List ℕ) (m k : ℕ) (z : k ≡ 0 → ⊥) {e : Entry} (p : e ≡ entry_at entries k) where
-  pub sound_stop : e ≡ Stop → false ≡ sound entries m k
+module _ (entries : List ℕ) (m k : ℕ) (z : k ≡ 0 → ⊥) {e : Option Entry} (p : e ≡ entry_at entries k) where
+  pub sound_stop : e ≡ None → false ≡ sound entries m k
   unfolding sound_step
   sound_stop q = sym (sound_turn entries m k z ∙ rw (← p, q))
 
-  module _ {d l next : ℕ} (q : e ≡ Has d l next) where
+  module _ {d l next : ℕ} (q : e ≡ has d l next) where
     pub sound_low : l < 1 → false ≡ sound entries m k
     unfolding sound_step
     sound_low h = sym (sound_turn entries m k z ∙ rw (← p, q, lt-leb 1 l h))
@@ -189,7 +185,7 @@ kinds_start size kind bytes count = let e : count - 0 ≡ count = omega arith in
 
 -- how the table goes on from a node
 module _ (cells : List ℕ) (node : Node) (s : ℕ) where
-  pub child_leaf : node.leaf ≡ true → Miss ≡ child_at cells node s
+  pub child_leaf : node.leaf ≡ true → None ≡ child_at cells node s
   unfolding child_at
   child_leaf e = rw e
 
@@ -210,10 +206,10 @@ module _ (cells : List ℕ) (node : Node) where
   none_start low high = rw add-one
 
   module _ (e : node.leaf ≡ false) (s : ℕ) {l : Look} (p : l ≡ look cells (node.base + s) s) where
-    pub free_hit : {link output : ℕ} → l ≡ Hit link output → free s ≡ false
+    pub free_hit : {link output : ℕ} → l ≡ hit link output → free s ≡ false
     free_hit q = ap (λ (k : Look). not (is_hit k)) (sym (child_look cells node s e p) ∙ q)
 
-    pub free_miss : l ≡ Miss → free s ≡ true
+    pub free_miss : l ≡ None → free s ≡ true
     free_miss q = ap (λ (k : Look). not (is_hit k)) (sym (child_look cells node s e p) ∙ q)
 
 -- the symbols that the list passes over, below the line's own and above it
@@ -305,11 +301,11 @@ module _ (cells entries levels : List ℕ) (beside : Beside) (node : Node) (outp
             follow_leaf l = follow_turn ∙ rw (x.passes, ← w, v, ← child_leaf cells node s l)
 
             module _ (l : node.leaf ≡ false) {found : Look} (q : found ≡ look cells (node.base + s) s) where
-              pub follow_miss : found ≡ Miss → left ≡ false
+              pub follow_miss : found ≡ None → left ≡ false
               unfolding follow_step
               follow_miss z = follow_turn ∙ rw (x.passes, ← w, v, ← child_look cells node s l q, z)
 
-              pub follow_on : {link out : ℕ} → found ≡ Hit link out → left ≡ follow cells entries levels beside (linked link) out (m + 1) (symbols_of (drop (i + 1) own))
+              pub follow_on : {link out : ℕ} → found ≡ hit link out → left ≡ follow cells entries levels beside (linked link) out (m + 1) (symbols_of (drop (i + 1) own))
               unfolding follow_step
               follow_on z = follow_turn ∙ rw (x.passes, ← w, v, ← child_look cells node s l q, z)
 
@@ -355,11 +351,11 @@ good_short l e =
     leb-true (length (symbols_of l)) pattern_limit (both (any_of digit l) _ letters).1
 
 -- the loop over the lines of a good text
-module _ (w : List ℕ) (at e : ℕ) (above : List ℕ) (h : at < length w) (q : e ≡ at + line_length (drop at w)) (g : first_bad Patterns at above (cut (drop at w)) ≡ Good) where
+module _ (w : List ℕ) (at e : ℕ) (above : List ℕ) (h : at < length w) (q : e ≡ at + line_length (drop at w)) (g : first_bad Patterns at above (cut (drop at w)) ≡ Ok tt) where
   passes : Passed Patterns at above (take (e - at) (drop at w)) (cut (drop e w))
   passes = passed Patterns at above (take (e - at) (drop at w)) (cut (drop e w)) (ap (first_bad Patterns at above) (sym (cut_line w at e h q)) ∙ g)
 
-  lines_good : first_bad Patterns e (take (e - at) (drop at w)) (cut (drop e w)) ≡ Good
+  lines_good : first_bad Patterns e (take (e - at) (drop at w)) (cut (drop e w)) ≡ Ok tt
   lines_good =
       let s : at + length (take (e - at) (drop at w)) ≡ e = omega (arith, line_size w at e h q, line_starts w at e h q) in
       ap (λ (k : ℕ). first_bad Patterns k (take (e - at) (drop at w)) (cut (drop e w))) (sym s) ∙ passes.onward
@@ -386,13 +382,13 @@ pub record Lined (cells entries : List ℕ) (root : ℕ) (w : List ℕ) (known l
   pub above : List ℕ
   pub within : at ≤ length w
   pub ends : end ≡ at + line_length (drop at w)
-  pub good : first_bad Patterns at above (cut (drop at w)) ≡ Good
+  pub good : first_bad Patterns at above (cut (drop at w)) ≡ Ok tt
   pub shares : known ≡ common (symbols_of above) (symbols_of (take (end - at) (drop at w)))
   pub follows : low ≡ get_or (symbols_of above) (common (symbols_of above) (symbols_of (take (end - at) (drop at w)))) 0
   pub same : patterns_right cells entries root [] (patterns_of w) ≡ patterns_right cells entries root (symbols_of above) (map pattern_of (cut (drop at w)))
 
 module _ (cells entries : List ℕ) (root : ℕ) (w : List ℕ) where
-  pub lined_start : (end : ℕ) → judge_lines Patterns w ≡ Good → end ≡ 0 + line_length (drop 0 w) → Lined cells entries root w 0 0 0 end
+  pub lined_start : (end : ℕ) → judge_lines Patterns w ≡ Ok tt → end ≡ 0 + line_length (drop 0 w) → Lined cells entries root w 0 0 0 end
   unfolding judge_lines patterns_of symbols_of common
   lined_start end g q = record { above = []; within = omega arith; ends = q; good = g; shares = refl; follows = refl; same = refl }
 
@@ -437,15 +433,15 @@ module _ (cells entries : List ℕ) (root : ℕ) (w : List ℕ) where
 -- the checker's last ground: the kinds, and then the list's paths
 module _ (text table : List ℕ) {cells entries : List ℕ} {c e : ℕ} (p : cells ≡ cells_of table) (q : entries ≡ entries_of table) (n : c ≡ cell_count table) (k : e ≡ entry_count table)
     {a : Bool} (x : a ≡ kinds_test cells entries c e) where
-  pub refused_kinds : a ≡ false → refuse_if (not (right_for text table)) NotRight ≡ Refused NotRight
+  pub refused_kinds : a ≡ false → refuse_if (not (right_for text table)) NotRight ≡ Err NotRight
   unfolding right_test
   refused_kinds z = rw (← p, ← q, ← n, ← k, ← x, z)
 
   module _ (z : a ≡ true) {b : Bool} (y : b ≡ paths_test (patterns_of text) cells entries root_base) where
-    pub refused_paths : b ≡ false → refuse_if (not (right_for text table)) NotRight ≡ Refused NotRight
+    pub refused_paths : b ≡ false → refuse_if (not (right_for text table)) NotRight ≡ Err NotRight
     unfolding right_test
     refused_paths w = rw (← p, ← q, ← n, ← k, ← x, z, ← y, w)
 
-    pub accepted_right : b ≡ true → refuse_if (not (right_for text table)) NotRight ≡ Fine
+    pub accepted_right : b ≡ true → refuse_if (not (right_for text table)) NotRight ≡ Ok tt
     unfolding right_test
     accepted_right w = rw (← p, ← q, ← n, ← k, ← x, z, ← y, w)

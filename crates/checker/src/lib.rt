@@ -7,14 +7,13 @@ ghost use Rattle.base.specs.Limits.{pattern_limit};
 ghost use Rattle.words.specs.Symbols.{symbols_of};
 ghost use Rattle.lists.specs.Lists.{judge_lines};
 ghost use Rattle.lists.specs.declared.Form.{Form};
-ghost use Rattle.lists.specs.declared.Lines.{Lines};
 ghost use Rattle.liang.specs.Patterns.{levels_from, patterns_of};
 ghost use Rattle.table.specs.Table.{cell_size};
 ghost use Rattle.trie.specs.Sound.{sound};
 ghost use Rattle.rightness.specs.Test.{kinds_from, kinds_test, exact_test, none_between, passed_over, follow, root_at, paths_test, check_grounds};
 ghost use Rattle.checker.specs.Post.{same_levels};
 
-use base::{Check, Ground};
+use base::Ground;
 use rightness::{Beside, Node};
 use table::{Entry, Look};
 
@@ -199,7 +198,7 @@ fn is_followed(cells: &[u8], entries: &[u8], root: u16, own: &[u8], beside: Besi
 // Are a table's paths from a root right for a good text? Every line is followed through the table; behind the last one, the root
 // goes on with no further symbol.
 fn is_right(text: &[u8], cells: &[u8], entries: &[u8], root: u16) -> bool
-    requires { judge_lines Form.Patterns text.now ≡ Lines.Good }
+    requires { judge_lines Form.Patterns text.now ≡ Ok tt }
     ensures { result ≡ paths_test (patterns_of text.now) cells.now entries.now root }
 {
     let mut known: usize = 0;
@@ -230,17 +229,11 @@ fn is_right(text: &[u8], cells: &[u8], entries: &[u8], root: u16) -> bool
 }
 
 // The checker: 8, 7, 9, 12; it accepts where nothing is refused.
-pub fn check(text: &[u8], table: &[u8]) -> Check
+pub fn check(text: &[u8], table: &[u8]) -> Result<(), Ground>
     ensures { says result ≡ first_of (Finds []) (check_grounds text.now table.now) }
 {
-    let list = lists::judge_patterns(text);
-    if let Check::Refused(g) = list {
-        return Check::Refused(g);
-    }
-    let form = table::judge_table(table);
-    if let Check::Refused(g) = form {
-        return Check::Refused(g);
-    }
+    lists::judge_patterns(text)?;
+    table::judge_table(table)?;
     let cells = table::cells_of(table);
     let entries = table::entries_of(table);
     if !has_kinds(
@@ -249,10 +242,10 @@ pub fn check(text: &[u8], table: &[u8]) -> Check
         table::cell_count(table),
         table::entry_count(table),
     ) {
-        return Check::Refused(Ground::NotRight); // a record of another kind
+        return Err(Ground::NotRight); // a record of another kind
     }
     if !is_right(text, cells, entries, table::ROOT_BASE) {
-        return Check::Refused(Ground::NotRight); // other paths than the list's
+        return Err(Ground::NotRight); // other paths than the list's
     }
-    Check::Fine
+    Ok(())
 }

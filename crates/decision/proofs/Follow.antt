@@ -11,8 +11,8 @@ use lib.Dec.{leb, eqb}
 use lib.ListN.{length, get_or, take, drop, get_or-eq_default}
 use lib.Seq.{take-suc, drop-cons, take-length, drop-length, length-take-le}
 use Rattle.base.specs.Limits.{symbol_limit, pattern_limit}
-use Rattle.table.specs.declared.Look.{Look}
-use Rattle.table.specs.declared.Look.TheVariants.{Hit, Miss}
+use Rattle.table.specs.Table.{Look, hit}
+use Rattle.std.specs.Prelude.{Some, None}
 use Rattle.liang.specs.Patterns.{Pattern}
 use Rattle.liang.specs.Levels.{begins}
 use Rattle.patterns.specs.Common.{common}
@@ -28,8 +28,8 @@ use Rattle.decision.proofs.Nodes.{behind, out_of, node_at, node_behind, child_al
 -- a step goes on where the look hits
 step_hit : (go : Node → ℕ → Bool) (found : Look) → follow_step (λ link output. go (linked link) output) found ≡ (is_hit found && go (behind found) (out_of found))
 unfolding follow_step
-step_hit go Miss = refl
-step_hit go (Hit link output) = refl
+step_hit go None = refl
+step_hit go (Some found) = refl
 
 -- What is asked of a pattern's first m symbols u, between the patterns above (`top`) and below.
 pub record Asked (cells : List ℕ) (root : ℕ) (top own below : List ℕ) (m : ℕ) (u : List ℕ) : Type 0 where

@@ -9,9 +9,8 @@ use lib.Dec.{leb, ltb, eqb}
 use lib.ListN.{length, get_or}
 use Rattle.base.specs.Limits.{symbol_limit}
 use Rattle.base.proofs.Lists.{never, both, untrue}
-use Rattle.table.specs.Table.{look}
-use Rattle.table.specs.declared.Look.{Look}
-use Rattle.table.specs.declared.Look.TheVariants.{Hit, Miss}
+use Rattle.table.specs.Table.{look, Look, hit}
+use Rattle.std.specs.Prelude.{Some, None}
 use Rattle.liang.specs.Levels.{begins}
 use Rattle.patterns.specs.Common.{common}
 use Rattle.trie.specs.Paths.{onward, along}
@@ -34,21 +33,21 @@ along_append cells base (s ∷ (t ∷ u)) x w h = go (look cells (base + s) s) (
 
     go : (found : Look) → ((link : ℕ) → along cells link (t ∷ (u ++ (x ∷ w))) ≡ onward tail (along cells link (t ∷ u)))
         → onward (λ link. along cells link (t ∷ (u ++ (x ∷ w)))) found ≡ onward tail (onward (λ link. along cells link (t ∷ u)) found)
-    go Miss next = refl
-    go (Hit link output) next = leaf (eqb link 0)
+    go None next = refl
+    go (Some found) next = leaf (eqb found.link 0)
       where
-        leaf : (z : Bool) → cond z Miss (along cells link (t ∷ (u ++ (x ∷ w)))) ≡ onward tail (cond z Miss (along cells link (t ∷ u)))
+        leaf : (z : Bool) → cond z None (along cells found.link (t ∷ (u ++ (x ∷ w)))) ≡ onward tail (cond z None (along cells found.link (t ∷ u)))
         leaf true = refl
-        leaf false = next link
+        leaf false = next found.link
 
 -- where a look leads, and its output; from a miss nothing goes on
 abbrev pub behind : Look → Node
-behind Miss = record { leaf = true; base = 0 }
-behind (Hit link output) = linked link
+behind None = record { leaf = true; base = 0 }
+behind (Some found) = linked found.link
 
 abbrev pub out_of : Look → ℕ
-out_of Miss = 0
-out_of (Hit link output) = output
+out_of None = 0
+out_of (Some found) = found.output
 
 module _ (cells : List ℕ) (root : ℕ) where
   -- the node of a string
@@ -68,8 +67,8 @@ module _ (cells : List ℕ) (root : ℕ) where
   child_along (x ∷ u) s = rw (along_append cells root (x ∷ u) s [] (omega arith)) (go (along cells root (x ∷ u)))
     where
       go : (found : Look) → child_at cells (behind found) s ≡ onward (λ link. along cells link (s ∷ [])) found
-      go Miss = refl
-      go (Hit link output) = refl
+      go None = refl
+      go (Some found) = refl
 
   -- behind a string the table goes on with no symbol between two others
   abbrev pub None : List ℕ → ℕ → ℕ → Type 0

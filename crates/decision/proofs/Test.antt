@@ -8,9 +8,8 @@ use native.Mathlib.Omega.{arith}
 use lib.ListN.{length, length-append}
 use Rattle.base.specs.Limits.{pattern_limit}
 use Rattle.base.proofs.Lists.{clash, never, both}
-use Rattle.table.specs.Table.{cell_size, entry_size}
-use Rattle.table.specs.declared.Look.{Look}
-use Rattle.table.specs.declared.Look.TheVariants.{Hit, Miss}
+use Rattle.table.specs.Table.{cell_size, entry_size, Look, hit}
+use Rattle.std.specs.Prelude.{Some, None}
 use Rattle.liang.specs.Patterns.{Pattern}
 use Rattle.trie.specs.Paths.{onward, along, Path}
 use Rattle.patterns.specs.Strings.{all_symbols, Beginning, nth, Shaped, Sorted}
@@ -26,17 +25,17 @@ use Rattle.decision.proofs.Checked.{Checked, test_checked, checked_test}
 record Ends (found : Look) : Type 0 where
   link : ℕ
   output : ℕ
-  same : found ≡ Hit link output
+  same : found ≡ hit link output
 
 ends : (found : Look) → is_hit found ≡ true → Ends found
-ends Miss e = never e
-ends (Hit link output) e = record { link = link; output = output; same = refl }
+ends None e = never e
+ends (Some found) e = record { found.link = found.link; found.output = found.output; same = refl }
 
 -- what ends further on has ended before
 onward_hit : (go : ℕ → Look) (found : Look) → is_hit (onward go found) ≡ true → is_hit found ≡ true
 unfolding onward
-onward_hit go Miss e = e
-onward_hit go (Hit link output) e = refl
+onward_hit go None e = e
+onward_hit go (Some found) e = refl
 
 module _ (patterns : List Pattern) (cells entries : List ℕ) (root : ℕ) (shaped : (i : ℕ) → i < length patterns → Shaped (nth patterns i)) where
   beginning_short : (u : List ℕ) → Beginning patterns u → length u ≤ pattern_limit

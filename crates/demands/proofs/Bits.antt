@@ -9,9 +9,8 @@ use lib.Dec.{ltb, leb, eqb}
 use lib.Ieee.{Float}
 use lib.ListN.{length, get_or}
 use Rattle.base.specs.Limits.{word_limit, room_size, pattern_limit, pattern_text, exception_text, customer_list, house_list, cell_limit, entry_limit, pack_room, word_limit1980, room_size1980, budget1980}
-use Rattle.base.specs.Grounds.{told, Said, Finds, Refuses, first, refuse_if, first_of}
-use Rattle.base.specs.declared.Check.{Check}
-use Rattle.base.specs.declared.Check.TheVariants.{Fine, Refused}
+use Rattle.base.specs.Grounds.{told, Said, Finds, Refuses, first, refuse_if, first_of, Check}
+use Rattle.std.specs.Prelude.{Ok, Err}
 use Rattle.base.specs.declared.Ground.{Ground}
 use Rattle.base.specs.declared.Ground.TheVariants.{Margin, WordEmpty, NotLetter, WordLong, RoomShort, BadException, BadPattern, TextLong, TableForm, PackRoomShort, NoFit, NotRight, BadWidth, TextRoomShort, RunningLong}
 use Rattle.base.proofs.Grounds.{Ordered, both_fine, not_refused, said_found, said_refused_lem}
@@ -25,9 +24,7 @@ use Rattle.lines.specs.Lines.{cut}
 use Rattle.lines.specs.Order.{before}
 use Rattle.lists.specs.declared.Form.{Form}
 use Rattle.lists.specs.declared.Form.TheVariants.{Patterns, Exceptions}
-use Rattle.lists.specs.declared.Lines.{Lines}
-use Rattle.lists.specs.declared.Lines.TheVariants.{Good, BadAt}
-use Rattle.lists.specs.Lists.{good_line, first_bad, judge_lines, judge_size, bad_pattern, bad_exception, judge_patterns, judge_lists}
+use Rattle.lists.specs.Lists.{Lines, good_line, first_bad, judge_lines, judge_size, bad_pattern, bad_exception, judge_patterns, judge_lists}
 use Rattle.lookup.specs.declared.Located.{Located}
 use Rattle.lookup.specs.declared.Located.TheVariants.{Customer, House, Nowhere}
 use Rattle.lookup.specs.Lookup.{judge_lookup, locate}
@@ -38,9 +35,7 @@ use Rattle.table.specs.Table.{root_base, head_size, head_kind, edition, cell_siz
 use Rattle.rightness.specs.Test.{right_for, judge_check}
 use Rattle.hyphenation.specs.Levels.{level_sheet, word_looks}
 use Rattle.hyphenation.specs.Breaks.{break_sheet}
-use Rattle.hyphenation.specs.Calls.{judge_room, judge_margins, judge_levels, judge_hyphenate, answer, levels_answer, breaks_sheet, breaks_looks, breaks_answer}
-use Rattle.hyphenation.specs.declared.Answer.{Answer}
-use Rattle.hyphenation.specs.declared.Answer.TheVariants as answers
+use Rattle.hyphenation.specs.Calls.{judge_room, judge_margins, judge_levels, judge_hyphenate, answer, levels_answer, breaks_sheet, breaks_looks, breaks_answer, Answer, found}
 use Rattle.words.proofs.Laws.{word_fits, letters_fit}
 use Rattle.hyphenation.proofs.Calls.{levels_sizes, breaks_sizes}
 use Rattle.hyphenation.proofs.Theorems.{word_few, breaks_few}
@@ -85,8 +80,8 @@ pub record Small (g : Ground) : Type 0 where
   pub place : (told g).place < 281474976710656
 
 SmallCheck : Check → Type 0
-SmallCheck Fine = Unit {0}
-SmallCheck (Refused g) = Small g
+SmallCheck (Ok _) = Unit {0}
+SmallCheck (Err g) = Small g
 
 number_small : (g : Ground) → (told g).number < 256
 number_small Margin = omega arith
@@ -116,13 +111,13 @@ reads_refusal g s =
 -- judgements in order, and one that is made only where a test fails
 small_first : (a b : Check) → SmallCheck a → SmallCheck b → SmallCheck (first a b)
 unfolding SmallCheck
-small_first Fine b p q = q
-small_first (Refused g) b p q = p
+small_first (Ok _) b p q = q
+small_first (Err g) b p q = p
 
 small_both : (a b c : Check) → SmallCheck a → SmallCheck (first b c) → SmallCheck (first (first a b) c)
 unfolding SmallCheck
-small_both Fine b c p q = q
-small_both (Refused g) b c p q = p
+small_both (Ok _) b c p q = q
+small_both (Err g) b c p q = p
 
 small_if : (test : Bool) (g : Ground) → Small g → SmallCheck (refuse_if test g)
 unfolding SmallCheck
@@ -143,7 +138,7 @@ bytes_small : (rule : Rule) (at : ℕ) (after : Bool) (word : List ℕ) → at +
 unfolding all_fit SmallCheck
 bytes_small rule at after [] h = tt
 bytes_small rule at after (b ∷ word) h =
-    small_either (rule after b word) (all_fit rule (at + 1) (letter b) word) (Refused (NotLetter at)) (bytes_small rule (at + 1) (letter b) word (omega arith))
+    small_either (rule after b word) (all_fit rule (at + 1) (letter b) word) (Err (NotLetter at)) (bytes_small rule (at + 1) (letter b) word (omega arith))
     (record { list = omega arith; place = omega arith })
 
 word_small : (rule : Rule) (limit : ℕ) → limit < 281474976710656 → (word : List ℕ) → SmallCheck (judge_by rule limit word)
@@ -155,8 +150,8 @@ word_small rule limit k word =
 
 -- lists
 SmallLines : Lines → Type 0
-SmallLines Good = Unit {0}
-SmallLines (BadAt offset) = offset < 281474976710656
+SmallLines (Ok _) = Unit {0}
+SmallLines (Err offset) = offset < 281474976710656
 
 lines_either : (test : Bool) (a b : Lines) → SmallLines a → SmallLines b → SmallLines (cond test a b)
 lines_either true a b p q = p
@@ -166,7 +161,7 @@ lines_small : (form : Form) (at : ℕ) (above : List ℕ) (ls : List (List ℕ))
 unfolding first_bad total SmallLines
 lines_small form at above [] h = tt
 lines_small form at above (line ∷ rest) h =
-    lines_either (good_line form line && before (symbols_of above) (symbols_of line)) (first_bad form (at + length line) line rest) (BadAt at)
+    lines_either (good_line form line && before (symbols_of above) (symbols_of line)) (first_bad form (at + length line) line rest) (Err at)
     (lines_small form (at + length line) line rest (omega arith)) (omega arith)
 
 text_small : (form : Form) (limit : ℕ) (text : List ℕ) → limit < 281474976710656 → length text ≤ limit → SmallLines (judge_lines form text)
@@ -175,13 +170,13 @@ text_small form limit text k h = lines_small form 0 [] (cut text) (omega (arith,
 
 pattern_small : (lines : Lines) → SmallLines lines → SmallCheck (bad_pattern lines)
 unfolding SmallLines SmallCheck
-pattern_small Good h = tt
-pattern_small (BadAt offset) h = record { list = omega arith; place = h }
+pattern_small (Ok _) h = tt
+pattern_small (Err offset) h = record { list = omega arith; place = h }
 
 exception_small : (list : ℕ) → list < 256 → (lines : Lines) → SmallLines lines → SmallCheck (bad_exception list lines)
 unfolding SmallLines SmallCheck
-exception_small list l Good h = tt
-exception_small list l (BadAt offset) h = record { list = l; place = h }
+exception_small list l (Ok _) h = tt
+exception_small list l (Err offset) h = record { list = l; place = h }
 
 plain : (g : Ground) → (told g).list ≡ 0 → (told g).place ≡ 0 → Small g
 plain g l p = record { list = omega (arith, l); place = omega (arith, p) }
@@ -240,17 +235,17 @@ pack_small text size =
 
 -- What is read of an answer's bits.
 pub ReadsAnswer : Answer → ℕ → Type 0
-ReadsAnswer (answers.Found marks looks) bits = (number_in bits ≡ 0) × (marks_in bits ≡ marks) × (looks_in bits ≡ looks)
-ReadsAnswer (answers.Refused g) bits = ReadsRefusal g bits
+ReadsAnswer (Ok f) bits = (number_in bits ≡ 0) × (marks_in bits ≡ f.marks) × (looks_in bits ≡ f.looks)
+ReadsAnswer (Err g) bits = ReadsRefusal g bits
 
 -- an answer by its judgement, where the finding's two numbers fit
-reads_answer : (judged : Check) (bytes : List ℕ) (looks : ℕ) → SmallCheck judged → length bytes ≡ room_size → (judged ≡ Fine → looks < 4294967296)
+reads_answer : (judged : Check) (bytes : List ℕ) (looks : ℕ) → SmallCheck judged → length bytes ≡ room_size → (judged ≡ Ok tt → looks < 4294967296)
     → ReadsAnswer (answer judged bytes looks) (answer_bits (answer judged bytes looks))
 unfolding SmallCheck ReadsAnswer
-reads_answer Fine bytes looks s n k =
+reads_answer (Ok tt) bytes looks s n k =
     let m : nonzero bytes < 65536 = omega (arith, nonzero_few bytes, n) in
     (found_number (nonzero bytes) looks m (k refl), found_marks (nonzero bytes) looks m (k refl), found_looks (nonzero bytes) looks m (k refl))
-reads_answer (Refused g) bytes looks s n k = reads_refusal g s
+reads_answer (Err g) bytes looks s n k = reads_refusal g s
 
 -- a judged word's looks are few
 module _ (word : List ℕ) (h : length word ≤ word_limit) where
@@ -276,16 +271,16 @@ hyphenate_bits left right word customer house table size =
 
 -- The checker's bits say what it answers: all zero, or the refusal.
 pub ReadsCheck : Check → ℕ → Type 0
-ReadsCheck Fine bits = bits ≡ 0
-ReadsCheck (Refused g) bits = ReadsRefusal g bits
+ReadsCheck (Ok _) bits = bits ≡ 0
+ReadsCheck (Err g) bits = ReadsRefusal g bits
 
 pub check_bits_lem : (text table : List ℕ) → ReadsCheck (judge_check text table) (check_bits (judge_check text table))
 unfolding SmallCheck ReadsCheck
 check_bits_lem text table = go (judge_check text table) (check_small text table)
   where
     go : (c : Check) → SmallCheck c → ReadsCheck c (check_bits c)
-    go Fine s = refl
-    go (Refused g) s = reads_refusal g s
+    go (Ok _) s = refl
+    go (Err g) s = reads_refusal g s
 
 -- a table that passes ground 9 is short
 formed_short : (table : List ℕ) → formed table ≡ true → length table ≤ pack_room
@@ -304,7 +299,7 @@ formed_short table e =
       eqb-true (length table) (head_size + cell_size * cell_count table + entry_size * entry_count table) g.1,
     )
 
-accepted_short : (text table : List ℕ) → judge_check text table ≡ Fine → length table ≤ pack_room
+accepted_short : (text table : List ℕ) → judge_check text table ≡ Ok tt → length table ≤ pack_room
 unfolding judge_check judge_table
 accepted_short text table e =
     let a = both_fine (judge_patterns text) _ e in
@@ -321,9 +316,9 @@ unfolding SmallCheck ReadsPacking
 pack_bits text size = go (judge_pack text size) refl (pack_small text size) (first_fit (patterns_of text)) refl
   where
     go : (v : Check) → judge_pack text size ≡ v → SmallCheck v → (fit : Fit) → first_fit (patterns_of text) ≡ fit → ReadsPacking (packing v fit) (packing_bits (packing v fit))
-    go (Refused g) j s fit f = reads_refusal g s
-    go Fine j s NoRoom f = reads_refusal NoFit (plain NoFit refl refl)
-    go Fine j s (Packed table) f =
+    go (Err g) j s fit f = reads_refusal g s
+    go (Ok _) j s NoRoom f = reads_refusal NoFit (plain NoFit refl refl)
+    go (Ok tt) j s (Packed table) f =
         let n = accepted_short text table (fit_accepted text table (judged_patterns text size j) f) in
         (size_number (length table) (omega (arith, n)), size_size (length table) (omega (arith, n)))
 
@@ -344,7 +339,7 @@ ReadsLocated (House start end) bits = ReadsLine house_list start end bits
 ReadsLocated Nowhere bits = bits ≡ 0
 
 -- a line that is found lies in a text within its limit
-lists_short : (word customer house : List ℕ) → judge_lookup word customer house ≡ Fine → (length customer ≤ exception_text) × (length house ≤ exception_text)
+lists_short : (word customer house : List ℕ) → judge_lookup word customer house ≡ Ok tt → (length customer ≤ exception_text) × (length house ≤ exception_text)
 unfolding judge_lookup judge_lists judge_size
 lists_short word customer house e =
     let a = both_fine (judge_word word_limit word) _ e in
@@ -369,14 +364,14 @@ lookup_bits word customer house = go (judge_lookup word customer house) refl (lo
   where
     go : (v : Check) → judge_lookup word customer house ≡ v → (at : Located) → locate word customer house ≡ at → ReadsLocated at (located_bits at)
     go v j Nowhere l = refl
-    go Fine j (Customer start end) l =
+    go (Ok tt) j (Customer start end) l =
         let w = located_customer word customer house l in
         reads_line customer_list start end (omega arith) (omega (arith, w.ends, (lists_short word customer house j).0)) w.starts
-    go Fine j (House start end) l =
+    go (Ok tt) j (House start end) l =
         let w = located_house word customer house l in
         reads_line house_list start end (omega arith) (omega (arith, w.ends, (lists_short word customer house j).1)) w.starts
-    go (Refused g) j (Customer start end) l = absurd (nowhere_customer (sym (locate_refused word customer house (sym j) refl ∙ l)))
-    go (Refused g) j (House start end) l = absurd (nowhere_house (sym (locate_refused word customer house (sym j) refl ∙ l)))
+    go (Err g) j (Customer start end) l = absurd (nowhere_customer (sym (locate_refused word customer house (sym j) refl ∙ l)))
+    go (Err g) j (House start end) l = absurd (nowhere_house (sym (locate_refused word customer house (sym j) refl ∙ l)))
 
 -- The fitting call's bits say what it answers: what came out and the gap, or the refusal.
 pub ReadsFit : Said → ℕ → Type 0
@@ -407,11 +402,11 @@ fit_bits_lem g widths word room = go (judge_fit g widths word (length room)) ref
 
     go : (c : Check) → judge_fit g widths word (length room) ≡ c → SmallCheck c → Ordered c (fit_grounds g widths word (length room))
         → ReadsFit (first_of (Finds (fit_values g widths word room)) (fit_grounds g widths word (length room))) (fit_bits (first_of (Finds (fit_values g widths word room)) (fit_grounds g widths word (length room))))
-    go Fine j s o =
+    go (Ok tt) j s o =
         let n = word_fits word_limit word (fit_judged g widths word (length room) (sym j) refl).0 in
         read (said_found o (fit_values g widths word room))
         (values_small (whole_fits g widths word) (last_of (break_fits g widths word room) (length word - 1)) (omega (arith, n, last_at_most (break_fits g widths word room) (length word - 1))))
-    go (Refused x) j s o = let r = reads_refusal x s in read (said_refused_lem o (fit_values g widths word room)) (r.number, r.list, r.place)
+    go (Err x) j s o = let r = reads_refusal x s in read (said_refused_lem o (fit_values g widths word room)) (r.number, r.list, r.place)
 
 -- The bits of CR 4's call say what it answers: whether it ran out, how many breaks and how many instructions, or the refusal.
 pub Reads1980 : Said → ℕ → Type 0
@@ -446,12 +441,12 @@ bits_1980 word size = go (judge1980 word size) refl (small_1980 word size) (orde
 
     go : (c : Check) → judge1980 word size ≡ c → SmallCheck c → Ordered c (grounds1980 word size)
         → Reads1980 (first_of (Finds (values_of (length word) (machine budget1980 word))) (grounds1980 word size)) (bits1980 (first_of (Finds (values_of (length word) (machine budget1980 word))) (grounds1980 word size)))
-    go Fine j s o =
+    go (Ok tt) j s o =
         let w = judged_fine word size j in
         let n = letters_fit word_limit1980 word w in
         read (said_found o (values_of (length word) (machine budget1980 word)))
         (outcome_reads (length word) (most_executed (length word)) (machine budget1980 word) (omega arith) (within word w budget1980 (omega arith)))
-    go (Refused x) j s o = let r = reads_refusal x s in read (said_refused_lem o (values_of (length word) (machine budget1980 word))) (r.number, r.list, r.place)
+    go (Err x) j s o = let r = reads_refusal x s in read (said_refused_lem o (values_of (length word) (machine budget1980 word))) (r.number, r.list, r.place)
 
 -- The bits of CR 6's calls say what they answer: the length of the text written and the count, or the refusal.
 pub ReadsText : TextAnswer → ℕ → Type 0
@@ -475,13 +470,13 @@ unfolding judge_end
 end_small left right customer house table held size =
     small_first (judge_setting left right customer house table) _ (setting_small left right customer house table) (small_if (short_for held size) TextRoomShort (plain TextRoomShort refl refl))
 
-text_reads : (judged : Check) (text : List ℕ) (looks : ℕ) → SmallCheck judged → (judged ≡ Fine → (length text < 16777216) × (looks < 4294967296))
+text_reads : (judged : Check) (text : List ℕ) (looks : ℕ) → SmallCheck judged → (judged ≡ Ok tt → (length text < 16777216) × (looks < 4294967296))
     → ReadsText (text_answer judged text looks) (text_bits (text_answer judged text looks))
 unfolding ReadsText SmallCheck
-text_reads Fine text looks s f =
+text_reads (Ok tt) text looks s f =
     let b = f refl in
     (written_number (length text) looks b.0 b.1, written_length (length text) looks b.0 b.1, written_looks (length text) looks b.0 b.1)
-text_reads (Refused g) text looks s f = reads_refusal g s
+text_reads (Err g) text looks s f = reads_refusal g s
 
 module _ (bytes : List ℕ) (wide : length bytes ≡ state_size) (left right : ℕ) (customer house table : List ℕ) where
   pub piece_bits : (piece : List ℕ) (size : ℕ)

@@ -10,17 +10,16 @@ use borrow.Author.Tests.{leb-true}
 use lib.Dec.{leb}
 use lib.ListN.{length, get_or, take}
 use Rattle.base.specs.Limits.{room_size, word_limit}
-use Rattle.base.specs.declared.Check.TheVariants.{Fine}
+use Rattle.std.specs.Prelude.{Ok, Err, Option, Some, None}
 use Rattle.base.proofs.Grounds.{both_fine}
 use Rattle.base.proofs.Lists.{clash, never, both}
 use Rattle.rooms.specs.Rooms.{written, nonzero, bit}
 use Rattle.rooms.proofs.Sheets.{written_low, written_take}
 use Rattle.words.specs.Words.{judge_word, inner}
 use Rattle.lists.specs.Lists.{judge_lists}
-use Rattle.lookup.specs.Find.{find, own_first, find_either}
+use Rattle.lookup.specs.Find.{find, own_first, find_either, span}
 use Rattle.lookup.specs.Listed.{Listed, shown}
-use Rattle.lookup.specs.declared.ListLine.{ListLine}
-use Rattle.lookup.specs.declared.ListLine.TheVariants.{At, Nothing}
+use Rattle.lookup.specs.declared.Span.{Span}
 use Rattle.lookup.specs.declared.Located.{Located}
 use Rattle.lookup.specs.declared.Located.TheVariants.{Customer, House, Nowhere}
 use Rattle.lookup.proofs.Theorems.{find_listed, find_unlisted, part_listed, lists_good}
@@ -32,8 +31,7 @@ use Rattle.table.specs.Table.{root_base, judge_table, cells_of, entries_of}
 use Rattle.rightness.specs.Test.{judge_check}
 use Rattle.hyphenation.specs.Levels.{level_at, word_looks}
 use Rattle.hyphenation.specs.Deciding.{Decided, deciding_line, HyphenCounts}
-use Rattle.hyphenation.specs.Calls.{judge_room, judge_margins, judge_hyphenate, breaks_sheet, breaks_looks, Breaks}
-use Rattle.hyphenation.specs.declared.Answer.TheVariants as answers
+use Rattle.hyphenation.specs.Calls.{judge_room, judge_margins, judge_hyphenate, breaks_sheet, breaks_looks, Breaks, found}
 use Rattle.hyphenation.proofs.Order.{hyphenate_ordered, computed}
 use Rattle.hyphenation.proofs.Theorems.{finding}
 use Rattle.demands.proofs.Hyphens.{line_counts, counts_line}
@@ -42,7 +40,7 @@ use Rattle.demands.proofs.Accepted.{accepted_paths, patterns_shaped}
 
 -- Which line decides of a word, by the lists' own lines, and whatever its levels.
 module _ (word customer house : List ℕ) (left right : ℕ) (level : ℕ → ℕ) where
-  module _ (judged : judge_lists customer house ≡ Fine) where
+  module _ (judged : judge_lists customer house ≡ Ok tt) where
     by_customer : (l : Listed word customer) (i : ℕ) → is_break left right customer house level word i ≡ line_break left right (length word) (shown word customer l) i
     unfolding is_break find_either
     by_customer l i =
@@ -90,24 +88,24 @@ one_where false e f g = record { one = λ h. never (g h); only = λ h. clash (sy
 
 -- what the promise says of a finding of the hyphenating call
 record Finds (left right : ℕ) (word customer house table room after : List ℕ) (marks looks : ℕ) : Type 0 where
-  judged : judge_hyphenate left right word customer house table (length room) ≡ Fine
+  judged : judge_hyphenate left right word customer house table (length room) ≡ Ok tt
   sheet : after ≡ written room_size (breaks_sheet left right word customer house table) room
   number : marks ≡ nonzero (breaks_sheet left right word customer house table)
   count : looks ≡ breaks_looks word customer house table
 
-finds : (left right : ℕ) (word customer house table room after : List ℕ) (marks looks : ℕ) → Breaks left right word customer house table room (answers.Found marks looks) after
+finds : (left right : ℕ) (word customer house table room after : List ℕ) (marks looks : ℕ) → Breaks left right word customer house table room (found marks looks) after
     → Finds left right word customer house table room after marks looks
 finds left right word customer house table room after marks looks b =
     let a = computed (hyphenate_ordered left right word customer house table (length room)) b in
     let f = finding (judge_hyphenate left right word customer house table (length room)) _ _ marks looks a.answered in
     record { judged = f.judged_fine; sheet = a.memory ∙ rw f.judged_fine; number = f.marks_are; count = f.looks_are }
 
-module _ (left right : ℕ) (word customer house table room after : List ℕ) (marks looks : ℕ) (b : Breaks left right word customer house table room (answers.Found marks looks) after) where
+module _ (left right : ℕ) (word customer house table room after : List ℕ) (marks looks : ℕ) (b : Breaks left right word customer house table room (found marks looks) after) where
   found : Finds left right word customer house table room after marks looks
   found = finds left right word customer house table room after marks looks b
 
   -- a finding's word and lists are good
-  pub judged_parts : (judge_word word_limit word ≡ Fine) × (judge_lists customer house ≡ Fine)
+  pub judged_parts : (judge_word word_limit word ≡ Ok tt) × (judge_lists customer house ≡ Ok tt)
   unfolding judge_hyphenate
   judged_parts =
       let a = both_fine (judge_margins left right) _ found.judged in
@@ -126,9 +124,9 @@ module _ (left right : ℕ) (word customer house table room after : List ℕ) (m
   count_listed (inl l) = found.count ∙ rw (find_listed word customer (lists_good customer house judged_parts.1).0 l)
   count_listed (inr l) = found.count ∙ none (find word customer) (find word house) (word_looks (cells_of table) root_base word) (find_listed word house (lists_good customer house judged_parts.1).1 l)
     where
-      none : (f g : ListLine) (n : ℕ) {start end : ℕ} → g ≡ At start end → unless_listed (own_first f g) n ≡ 0
-      none (At start end) g n p = refl
-      none Nothing g n p = rw p
+      none : (f g : Option Span) (n : ℕ) {start end : ℕ} → g ≡ span start end → unless_listed (own_first f g) n ≡ 0
+      none (Some line) g n p = refl
+      none None g n p = rw p
 
   -- "byte i of the room is 1 if gap i is a break, the other bytes up to 63 are 0", over any table
   pub byte_is : (i : ℕ) → i < room_size → get_or after i 0 ≡ bit (is_break left right customer house (level_at (cells_of table) (entries_of table) root_base word) word i)
@@ -172,7 +170,7 @@ module _ (left right : ℕ) (word customer house table room after : List ℕ) (m
       is_one false e = clash e
 
   -- over a table that the checker accepts
-  module _ (text : List ℕ) (accepted : judge_check text table ≡ Fine) where
+  module _ (text : List ℕ) (accepted : judge_check text table ≡ Ok tt) where
     -- "byte i of the room is 1 if gap i is a break, the other bytes up to 63 are 0"
     pub breaks_are : (i : ℕ) → i < room_size → get_or after i 0 ≡ bit (is_break left right customer house (liang (patterns_of text) word) word i)
     breaks_are i k =

@@ -5,11 +5,10 @@ use mathlib.Core.Path.{◌≡◌, sym, ◌∙◌, ap, subst}
 use native.Mathlib.Omega.{arith}
 use lib.ListN.{length, get_or, take}
 use Rattle.base.specs.Limits.{pattern_limit, level_limit, cell_limit}
-use Rattle.base.specs.declared.Check.TheVariants.{Fine}
+use Rattle.std.specs.Prelude.{Ok, Err}
 use Rattle.base.proofs.Lists.{clash}
 use Rattle.liang.specs.Patterns.{Pattern}
-use Rattle.table.specs.Table.{root_base, cell_size, cell_room, entry_size, judge_table, cells_of, entries_of}
-use Rattle.table.specs.declared.Look.TheVariants.{Hit}
+use Rattle.table.specs.Table.{root_base, cell_size, cell_room, entry_size, judge_table, cells_of, entries_of, hit}
 use Rattle.trie.specs.Paths.{along, Path}
 use Rattle.patterns.specs.Strings.{Beginning, nth, Shaped, Sorted}
 use Rattle.rightness.specs.Right.{Exact, PathsRight, Right}
@@ -28,7 +27,7 @@ use Rattle.fit_trie.proofs.Behind.{beginning_behind, pattern_behind, empty_enter
 
 -- A table that is well formed and right for a list.
 pub record Good (patterns : List Pattern) (table : List ℕ) : Type 0 where
-  pub formed : judge_table table ≡ Fine
+  pub formed : judge_table table ≡ Ok tt
   pub right : Right patterns (cells_of table) (entries_of table) root_base
 
 -- The list is sorted and its patterns are those of good lines, with levels up to 9.
@@ -71,11 +70,11 @@ module _ (patterns : List Pattern) (sorted : Sorted patterns) (shaped : (i : ℕ
       part_links = cut_links after c size few nodes below issued.links
 
       -- a string behind a node is a path, with the output issued
-      along_behind : (u : List ℕ) (b : Behind nodes u) → along cell_part site.root u ≡ Hit (link_in cell_part (cell_behind nodes u b)) (output_in after (cell_behind nodes u b))
+      along_behind : (u : List ℕ) (b : Behind nodes u) → along cell_part site.root u ≡ hit (link_in cell_part (cell_behind nodes u b)) (output_in after (cell_behind nodes u b))
       along_behind u b =
           ap (λ (v : List ℕ). along cell_part site.root v) b.same
           ∙ along_goes site nodes cell_part placed.laid.tree part_owned part_links b.at b.inside b.last b.goes
-          ∙ ap (Hit (link_in cell_part (cell_behind nodes u b))) (cut_output after c size few (cell_behind nodes u b) (below b.at b.last b.inside b.goes))
+          ∙ ap (hit (link_in cell_part (cell_behind nodes u b))) (cut_output after c size few (cell_behind nodes u b) (below b.at b.last b.inside b.goes))
 
       path_behind : (u : List ℕ) → Path cell_part site.root u → Behind nodes u
       path_behind u p =
@@ -83,7 +82,7 @@ module _ (patterns : List Pattern) (sorted : Sorted patterns) (shaped : (i : ℕ
           u p.link p.output p.alphabet p.matches
 
       -- a pattern's output was issued for its levels
-      exact : (i : ℕ) → i < length patterns → (link output : ℕ) → along cell_part site.root (nth patterns i).symbols ≡ Hit link output → Exact entry_part (nth patterns i) output
+      exact : (i : ℕ) → i < length patterns → (link output : ℕ) → along cell_part site.root (nth patterns i).symbols ≡ hit link output → Exact entry_part (nth patterns i) output
       exact i h link output a =
           let b = pattern_behind patterns sorted shaped low site nodes bytes taken placed i h in
           let w = along_behind (nth patterns i).symbols b in
@@ -141,7 +140,7 @@ module _ (patterns : List Pattern) (sorted : Sorted patterns) (shaped : (i : ℕ
           subst (λ (l : List ℕ). Right patterns l (entries_of (bytes_of c after made e)) site.root) (sym (table_cells c e after made cell_bytes entry_bytes))
           (subst (λ (l : List ℕ). Right patterns cell_part l site.root) (sym (table_entries c e after made cell_bytes entry_bytes)) parts_right)
 
-      table_judged : judge_table (bytes_of c after made e) ≡ Fine
+      table_judged : judge_table (bytes_of c after made e) ≡ Ok tt
       table_judged = table_fine c e after made cell_bytes entry_bytes (used_range bytes).0 few issued.entered.few
 
   issued_good : (nodes : List Node) (bytes taken : List ℕ) (placed : Passing empty_site patterns pattern_limit 0 nodes bytes taken) (empty table : List ℕ) (outs : Outputs)

@@ -10,9 +10,8 @@ use lib.Dec.{eqb}
 use lib.Ieee.{Float}
 use lib.ListN.{length}
 use Rattle.base.specs.Limits.{pack_room}
-use Rattle.base.specs.Grounds.{Told, Said, Finds, Refuses, says, Row, first_of, numbers_of, is_finding, any_holds, one_of}
+use Rattle.base.specs.Grounds.{Told, Said, Finds, Refuses, says, Row, first_of, numbers_of, is_finding, any_holds, one_of, Check}
 use Rattle.base.specs.Orders.{hyphenate_order, levels_order, pack_order, check_order, lookup_order, fit_order, order1980, piece_order, end_order}
-use Rattle.base.specs.declared.Check.{Check}
 use Rattle.base.proofs.Order.{Chosen, finding_exactly, refuses_first, refuses_listed, none_found_lem, some_refused}
 use Rattle.rooms.specs.Rooms.{filled}
 use Rattle.words.specs.Words.{grounds_by}
@@ -23,8 +22,7 @@ use Rattle.liang.specs.Patterns.{patterns_of}
 use Rattle.table.specs.Table.{table_grounds}
 use Rattle.rightness.specs.Test.{check_grounds}
 use Rattle.fit.specs.Table.{first_fit}
-use Rattle.hyphenation.specs.Calls.{room_grounds, margin_grounds, levels_grounds, hyphenate_grounds, answer_said, room_left, Answers, Levels, Breaks}
-use Rattle.hyphenation.specs.declared.Answer.{Answer}
+use Rattle.hyphenation.specs.Calls.{room_grounds, margin_grounds, levels_grounds, hyphenate_grounds, answer_said, room_left, Answers, Levels, Breaks, Answer}
 use Rattle.packer.specs.Pack.{pack_grounds, fit_bytes, packing_said, pack_said, pack_left, Packs}
 use Rattle.packer.specs.declared.Packing.{Packing}
 use Rattle.gauge.specs.Fit.{fit_grounds, fit_said, fit_answer}

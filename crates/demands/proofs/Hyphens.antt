@@ -9,7 +9,7 @@ use native.Mathlib.Omega.{arith}
 use borrow.Author.Tests.{le-leb, leb-true, eqb-true}
 use lib.Dec.{leb, eqb}
 use lib.ListN.{length, get_or, take, drop}
-use Rattle.base.specs.declared.Check.TheVariants.{Fine}
+use Rattle.std.specs.Prelude.{Ok, Err}
 use Rattle.base.proofs.Lists.{clash, never, both, test_iff}
 use Rattle.words.specs.Symbols.{line_feed, hyphen, small, symbol_of, symbols_of}
 use Rattle.words.proofs.Laws.{symbols_skip, symbols_keep, symbols_length}
@@ -17,7 +17,6 @@ use Rattle.lines.specs.Lines.{cut, is_nil, line_letter, exception_form, exceptio
 use Rattle.lines.proofs.Laws.{line_letter_symbol}
 use Rattle.lists.specs.Lists.{good_line, judge_lines, judge_lists}
 use Rattle.lists.specs.declared.Form.TheVariants.{Exceptions}
-use Rattle.lists.specs.declared.Lines.TheVariants.{Good}
 use Rattle.lookup.specs.Listed.{Listed, shown}
 use Rattle.lookup.proofs.Theorems.{lists_good}
 use Rattle.liang.specs.Breaks.{hyphen_at, in_margins, line_break}
@@ -236,7 +235,7 @@ between a (b ∷ c ∷ t) (x ∷ before) behind h e = go (goes_on_lem a b c t h)
     go (inr (p, q, h)) next = record { letter_behind = (next false h).letter_behind; letter_before_lem = λ z. never (sym z ∙ p) }
 
 -- the line of a listed word
-module _ (word text : List ℕ) (good : judge_lines Exceptions text ≡ Good) (l : Listed word text) where
+module _ (word text : List ℕ) (good : judge_lines Exceptions text ≡ Ok tt) (l : Listed word text) where
   listed_form : exception_form line_letter false (get_or (cut text) l.at []) ≡ true
   unfolding judge_lines good_line good_exception exception_bytes
   listed_form =
@@ -277,7 +276,7 @@ module _ (word text : List ℕ) (good : judge_lines Exceptions text ≡ Good) (l
           })
 
 -- the line that decides
-module _ (word customer house : List ℕ) (judged : judge_lists customer house ≡ Fine) (left right i : ℕ) where
+module _ (word customer house : List ℕ) (judged : judge_lists customer house ≡ Ok tt) (left right i : ℕ) where
   pub line_counts : (d : Decided word customer house) → line_break left right (length word) (deciding_line word customer house d) i ≡ true → HyphenCounts left right (deciding_line word customer house d) i
   line_counts (inl l) = shown_counts word customer (lists_good customer house judged).0 l left right i
   line_counts (inr (n, l)) = shown_counts word house (lists_good customer house judged).1 l left right i
@@ -287,7 +286,7 @@ module _ (word customer house : List ℕ) (judged : judge_lists customer house �
   counts_line (inr (n, l)) = counts_shown word house (lists_good customer house judged).1 l left right i
 
 -- With margins 1 and 1 a line stands whole, as document 01 had it for all margins.
-pub line_whole : (word customer house : List ℕ) → judge_lists customer house ≡ Fine → (d : Decided word customer house) (i : ℕ)
+pub line_whole : (word customer house : List ℕ) → judge_lists customer house ≡ Ok tt → (d : Decided word customer house) (i : ℕ)
     → line_break 1 1 (length word) (deciding_line word customer house d) i ≡ hyphen_at (deciding_line word customer house d) i
 line_whole word customer house judged (inl l) i = shown_whole word customer (lists_good customer house judged).0 l i
 line_whole word customer house judged (inr (n, l)) i = shown_whole word house (lists_good customer house judged).1 l i

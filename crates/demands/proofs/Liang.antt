@@ -10,7 +10,7 @@ use borrow.Author.Tests.{le-leb, eqb-true, eqb-false}
 use lib.Dec.{leb, eqb}
 use lib.ListN.{length, get_or, drop, length-drop}
 use Rattle.base.specs.Limits.{symbol_limit, edge, pattern_limit, room_size, word_limit}
-use Rattle.base.specs.declared.Check.TheVariants.{Fine}
+use Rattle.std.specs.Prelude.{Ok, Err}
 use Rattle.rooms.specs.Rooms.{written, bit}
 use Rattle.rooms.proofs.Sheets.{written_low}
 use Rattle.words.specs.Symbols.{apostrophe, small, lower, letter, symbol_of}
@@ -52,7 +52,7 @@ unfolding word_symbols all_symbols
 bytes_symbols [] e = refl
 bytes_symbols (b ∷ word) e = rw (byte_symbol b (e 0 (omega arith)), bytes_symbols word (λ i h. e (suc i) (omega arith)))
 
-pub row_symbols : (limit : ℕ) (word : List ℕ) → judge_word limit word ≡ Fine → all_symbols (row_of word) ≡ true
+pub row_symbols : (limit : ℕ) (word : List ℕ) → judge_word limit word ≡ Ok tt → all_symbols (row_of word) ≡ true
 unfolding row_of all_symbols
 row_symbols limit word e = bytes_symbols word (word_byte_lem limit word e)
 
@@ -61,7 +61,7 @@ alphabet_drop zero row e = e
 alphabet_drop (suc n) [] e = e
 alphabet_drop (suc n) (s ∷ row) e = alphabet_drop n row (alphabet_rest s row e)
 
-module _ (patterns : List Pattern) (cells entries : List ℕ) (root : ℕ) (paths : PathsRight patterns cells entries root) (word : List ℕ) (fine : judge_word word_limit word ≡ Fine) where
+module _ (patterns : List Pattern) (cells entries : List ℕ) (root : ℕ) (paths : PathsRight patterns cells entries root) (word : List ℕ) (fine : judge_word word_limit word ≡ Ok tt) where
   rest_symbols : (place : ℕ) → all_symbols (drop place (row_of word)) ≡ true
   rest_symbols place = alphabet_drop place (row_of word) (row_symbols word_limit word fine)
 

@@ -15,8 +15,8 @@ use Rattle.words.proofs.Laws.{word_fits}
 use Rattle.table.specs.Table.{root_base, cells_of, entries_of}
 use Rattle.hyphenation.specs.Levels.{level_at}
 use Rattle.hyphenation.specs.Breaks.{is_break}
-use Rattle.hyphenation.specs.Calls.{Breaks}
-use Rattle.hyphenation.specs.declared.Answer.TheVariants as answers
+use Rattle.hyphenation.specs.Calls.{Breaks, found}
+use Rattle.std.specs.Prelude.{Ok, Err}
 use Rattle.gauge.specs.Fit.{break_found, fit_said, fit_answer}
 use Rattle.gauge.specs.Strip.{IsBreak}
 use Rattle.gauge.specs.declared.Gauge.{Gauge}
@@ -29,7 +29,7 @@ set_bit : (z : Bool) → (bit z ≡ 0 → ⊥) ↔ (z ≡ true)
 set_bit true = (λ h. refl, λ e z. absurd (omega (arith, z)))
 set_bit false = (λ h. absurd (h refl), λ e. clash cc)
 
-module _ (left right : ℕ) (word customer house table room after : List ℕ) (marks looks : ℕ) (b : Breaks left right word customer house table room (answers.Found marks looks) after) where
+module _ (left right : ℕ) (word customer house table room after : List ℕ) (marks looks : ℕ) (b : Breaks left right word customer house table room (found marks looks) after) where
   -- The breaks that the fitting call reads are the word's, over any table.
   pub breaks_read : (i : ℕ) → IsBreak word after i
       ↔ ((1 ≤ i) × (i < length word) × (is_break left right customer house (level_at (cells_of table) (entries_of table) root_base word) word i ≡ true))

@@ -8,9 +8,8 @@ use mathlib.Core.Path.{◌≡◌, refl, sym, ◌∙◌, ap}
 use native.Mathlib.Omega.{arith}
 use lib.ListN.{length, drop, length-take, length-drop}
 use Rattle.base.specs.Limits.{word_limit}
-use Rattle.base.specs.Grounds.{first, refuse_if}
-use Rattle.base.specs.declared.Check.{Check}
-use Rattle.base.specs.declared.Check.TheVariants.{Fine, Refused}
+use Rattle.base.specs.Grounds.{first, refuse_if, Check}
+use Rattle.std.specs.Prelude.{Ok, Err}
 use Rattle.base.specs.declared.Ground.TheVariants.{NotRight}
 use Rattle.base.proofs.Lists.{test_iff}
 use Rattle.rooms.specs.Rooms.{bit}
@@ -104,12 +103,12 @@ module _ (root : ℕ) (table other : List ℕ) (a : AgreeReached root table othe
 
 module _ (root : ℕ) (table other : List ℕ) (a : AgreeReached root table other) where
   -- The checker's tests say the same of both: that of the kinds,
-  pub kinds_test_alike : judge_table table ≡ Fine → judge_table other ≡ Fine
+  pub kinds_test_alike : judge_table table ≡ Ok tt → judge_table other ≡ Ok tt
       → kinds_test (cells_of table) (entries_of table) (cell_count table) (entry_count table) ≡ kinds_test (cells_of other) (entries_of other) (cell_count other) (entry_count other)
   kinds_test_alike f g =
       test_iff _ _ (λ t. (tell other g).1 (kinds_alike root table other a ((tell table f).0 t))) (λ t. (tell table f).1 (kinds_alike root other table (turned a) ((tell other g).0 t)))
     where
-      tell : (t : List ℕ) → judge_table t ≡ Fine → (kinds_test (cells_of t) (entries_of t) (cell_count t) (entry_count t) ≡ true) ↔ Kinds (cells_of t) (entries_of t)
+      tell : (t : List ℕ) → judge_table t ≡ Ok tt → (kinds_test (cells_of t) (entries_of t) (cell_count t) (entry_count t) ≡ true) ↔ Kinds (cells_of t) (entries_of t)
       tell t fine = kinds_tell _ _ _ _ (cells_length t fine) (entries_length t fine)
 
   -- and that of a list's paths, whatever the list.
@@ -130,26 +129,26 @@ checked_alike text table other a = rw (← (table_alike 0 table other a)) (go (j
   where
     go : (p : Check) → judge_patterns text ≡ p → (q : Check) → judge_table table ≡ q
         → first p (first q (refuse_if (not (right_for text table)) NotRight)) ≡ first p (first q (refuse_if (not (right_for text other)) NotRight))
-    go (Refused g) e q f = refl
-    go Fine e (Refused g) f = refl
-    go Fine e Fine f =
+    go (Err g) e q f = refl
+    go (Ok _) e (Err g) f = refl
+    go (Ok tt) e (Ok tt) f =
         rw (
           kinds_test_alike 0 table other a f (sym (table_alike 0 table other a) ∙ f),
           paths_test_alike 0 table other a (patterns_of text) (good_sorted text e) (good_patterns text e),
         )
 
 -- an answer, and a room, by what a judgement that refuses nothing leads to
-answer_alike : (judged judged' : Check) (sheet sheet' : List ℕ) (count count' : ℕ) → judged ≡ judged' → (judged ≡ Fine → (sheet ≡ sheet') × (count ≡ count'))
+answer_alike : (judged judged' : Check) (sheet sheet' : List ℕ) (count count' : ℕ) → judged ≡ judged' → (judged ≡ Ok tt → (sheet ≡ sheet') × (count ≡ count'))
     → answer judged sheet count ≡ answer judged' sheet' count'
-answer_alike Fine judged' sheet sheet' count count' e f = let s = f refl in rw (← e, s.0, s.1)
-answer_alike (Refused g) judged' sheet sheet' count count' e f = rw (← e)
+answer_alike (Ok _) judged' sheet sheet' count count' e f = let s = f refl in rw (← e, s.0, s.1)
+answer_alike (Err g) judged' sheet sheet' count count' e f = rw (← e)
 
-room_alike : (judged judged' : Check) (sheet sheet' room : List ℕ) → judged ≡ judged' → (judged ≡ Fine → sheet ≡ sheet') → room_after judged sheet room ≡ room_after judged' sheet' room
-room_alike Fine judged' sheet sheet' room e f = rw (← e, f refl)
-room_alike (Refused g) judged' sheet sheet' room e f = rw (← e)
+room_alike : (judged judged' : Check) (sheet sheet' room : List ℕ) → judged ≡ judged' → (judged ≡ Ok tt → sheet ≡ sheet') → room_after judged sheet room ≡ room_after judged' sheet' room
+room_alike (Ok _) judged' sheet sheet' room e f = rw (← e, f refl)
+room_alike (Err g) judged' sheet sheet' room e f = rw (← e)
 
 -- "Over any table, checked or not": the levels of a word, its count and its breaks are the same over both, from any root.
-module _ (root : ℕ) (table other : List ℕ) (a : AgreeReached root table other) (word : List ℕ) (fine : judge_word word_limit word ≡ Fine) where
+module _ (root : ℕ) (table other : List ℕ) (a : AgreeReached root table other) (word : List ℕ) (fine : judge_word word_limit word ≡ Ok tt) where
   level_alike : (i : ℕ) → level_at (cells_of table) (entries_of table) root word i ≡ level_at (cells_of other) (entries_of other) root word i
   unfolding level_at
   level_alike i = rw settings_over
@@ -177,7 +176,7 @@ module _ (root : ℕ) (table other : List ℕ) (a : AgreeReached root table othe
 
 -- The calls say and write the same over both, whatever the word.
 module _ (table other : List ℕ) (a : AgreeReached root_base table other) where
-  module _ (word : List ℕ) (fine : judge_word word_limit word ≡ Fine) where
+  module _ (word : List ℕ) (fine : judge_word word_limit word ≡ Ok tt) where
     pub level_sheet_alike : level_sheet (cells_of table) (entries_of table) root_base word ≡ level_sheet (cells_of other) (entries_of other) root_base word
     level_sheet_alike = levels_alike root_base table other a word fine
 
@@ -197,7 +196,7 @@ module _ (table other : List ℕ) (a : AgreeReached root_base table other) where
     unfolding judge_levels
     judge_levels_alike size = rw (table_alike root_base table other a)
 
-    levels_word : (size : ℕ) → judge_levels word table size ≡ Fine → judge_word word_limit word ≡ Fine
+    levels_word : (size : ℕ) → judge_levels word table size ≡ Ok tt → judge_word word_limit word ≡ Ok tt
     levels_word size e = (levels_sizes word table size refl e).0
 
     pub levels_answer_alike : (size : ℕ) → levels_answer word table size ≡ levels_answer word other size
@@ -213,7 +212,7 @@ module _ (table other : List ℕ) (a : AgreeReached root_base table other) where
     unfolding judge_hyphenate
     judge_breaks_alike size = rw (table_alike root_base table other a)
 
-    breaks_word : (size : ℕ) → judge_hyphenate left right word customer house table size ≡ Fine → judge_word word_limit word ≡ Fine
+    breaks_word : (size : ℕ) → judge_hyphenate left right word customer house table size ≡ Ok tt → judge_word word_limit word ≡ Ok tt
     breaks_word size e = (breaks_sizes left right word customer house table size refl e).0
 
     pub breaks_answer_alike : (size : ℕ) → breaks_answer left right word customer house table size ≡ breaks_answer left right word customer house other size

@@ -1,5 +1,5 @@
 -- "Marked (p): proved from the written definitions as a single table under one statement."
-use Rattle.std.specs.Prelude.{ℕ, zero, suc, ◌+◌, ◌*◌, ◌-◌, Bool, true, ◌&&◌, List, [], ◌∷◌, ◌++◌, map, ◌≡◌, refl, eqb, length, take, drop}
+use Rattle.std.specs.Prelude.{ℕ, zero, suc, ◌+◌, ◌*◌, ◌-◌, Bool, true, ◌&&◌, List, [], ◌∷◌, ◌++◌, map, ◌≡◌, refl, eqb, length, take, drop, Some, None}
 use Rattle.base.specs.Limits.{room_size}
 use Rattle.base.specs.Grounds.{Said, Finds, Refuses, first_of}
 use Rattle.rooms.specs.Rooms.{sheet_from, sheet, nonzero, bit}
@@ -16,14 +16,12 @@ use Rattle.liang.specs.Patterns.{levels_from, pattern_of, patterns_of}
 use Rattle.liang.specs.Levels.{begins, level_here, level_of, highest, liang}
 use Rattle.hyphenation.specs.Breaks.{is_break, break_sheet, break_looks}
 use Rattle.liang.specs.Breaks.{hyphen_at, in_margins, odd, line_break, level_break, bad_margin}
-use Rattle.table.specs.Table.{root_base, number_at, cell_count, entry_count, formed, table_grounds, cells_from, entries_from, cells_of, entries_of, look, entry_at}
+use Rattle.table.specs.Table.{root_base, number_at, cell_count, entry_count, formed, table_grounds, cells_from, entries_from, cells_of, entries_of, look, entry_at, Look, hit}
 use Rattle.walk.specs.Chain.{setting, chain_step, chain_from, chain}
 use Rattle.walk.specs.Walk.{set_step, set_from, look_step, looks_from, settings, looks}
 use Rattle.walk.specs.Raise.{highest_set}
 use Rattle.hyphenation.specs.Levels.{level_at, level_sheet, word_looks}
 use Rattle.hyphenation.specs.Calls.{room_grounds, margin_grounds, levels_grounds, hyphenate_grounds, found_or, breaks_sheet, breaks_looks}
-use Rattle.table.specs.declared.Look.{Look}
-use Rattle.table.specs.declared.Look.TheVariants.{Hit, Miss}
 use Rattle.patterns.specs.Common.{common}
 use Rattle.patterns.specs.Next.{next_in, opens}
 use Rattle.trie.specs.Paths.{onward, along}
@@ -95,8 +93,8 @@ packed text = bytes_in (first_fit (patterns_of text))
 
 -- The base of a path, written with letters: the link of its last cell.
 abbrev pub link_in : Look → ℕ
-link_in Miss = 0
-link_in (Hit link output) = link
+link_in None = 0
+link_in (Some found) = found.link
 
 unfoldable pub base_of : List ℕ → List ℕ → ℕ
 base_of table path = link_in (along (cells_of table) root_base (word_symbols path))

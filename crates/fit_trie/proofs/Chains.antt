@@ -10,8 +10,7 @@ use lib.Dec.{leb, ltb, eqb}
 use lib.ListN.{length, get_or, set, length-set}
 use lib.Seq.{get_or-set_same, get_or-set_other}
 use Rattle.base.specs.Limits.{level_limit, entry_limit}
-use Rattle.table.specs.Table.{entry_kind, entry_size, entry_room, number_at, entry_at}
-use Rattle.table.specs.declared.Entry.TheVariants.{Has}
+use Rattle.table.specs.Table.{entry_kind, entry_size, entry_room, number_at, entry_at, has}
 use Rattle.table.proofs.Laws.{entry_has}
 use Rattle.walk.specs.Chain.{Setting, setting, chain_step, chain_from, chain}
 use Rattle.walk.specs.Raise.{highest_set}
@@ -28,7 +27,7 @@ place k = entry_size * (k - 1)
 
 -- an entry of kind 3, read by its place
 entry_read : (bytes : List ℕ) (k : ℕ) → 1 ≤ k → entry_size * k ≤ length bytes → get_or bytes (place k) 0 ≡ entry_kind
-    → entry_at bytes k ≡ Has (get_or bytes (place k + 1) 0) (get_or bytes (place k + 2) 0) (number_at bytes (place k + 3))
+    → entry_at bytes k ≡ has (get_or bytes (place k + 1) 0) (get_or bytes (place k + 2) 0) (number_at bytes (place k + 3))
 entry_read bytes k h l e =
     let a : entry_size * k - 5 ≡ place k = omega arith in
     let b : entry_size * k - 4 ≡ place k + 1 = omega arith in
@@ -54,7 +53,7 @@ record Topped (bytes : List ℕ) (count distance level next : ℕ) (after : List
   kept : Kept bytes after count
   within : last ≤ total
   above : next < last
-  has : entry_at after last ≡ Has distance level next
+  has : entry_at after last ≡ has distance level next
 
 abbrev ToppedIn : List ℕ → ℕ → ℕ → ℕ → ℕ → Entries → Type 0
 ToppedIn bytes count distance level next TooMany = Unit
@@ -215,7 +214,7 @@ module _ (bytes : List ℕ) (distance level next : ℕ) where
                 (entry_kept bytes at distance level next room (place k + 3 + 1) (omega arith)) in
                 omega (arith, n, entered.lower k l (omega arith))
 
-        top : entry_at after (suc count) ≡ Has distance level next
+        top : entry_at after (suc count) ≡ has distance level next
         top =
             entry_read after (suc count) (omega arith) (omega (arith, entry_length bytes at distance level next room, entered.size)) (kind (suc count) (omega arith) (omega arith))
             ∙ rw (here, entry_distance bytes at distance level next room, entry_level bytes at distance level next room, entry_next bytes at distance level next room)
@@ -235,7 +234,7 @@ pub data Runs (bytes levels : List ℕ) (m : ℕ) : ℕ → ℕ → Type 0 where
   none : Runs bytes levels m 0 0
   skip : {d k : ℕ} → Runs bytes levels m d k → d ≤ m → get_or levels (m - d) 0 ≡ 0 → Runs bytes levels m (suc d) k
   more : {d k next : ℕ} → Runs bytes levels m d next → d ≤ m → 1 ≤ get_or levels (m - d) 0 → get_or levels (m - d) 0 ≤ level_limit → next < k
-      → entry_at bytes k ≡ Has d (get_or levels (m - d) 0) next → Runs bytes levels m (suc d) k
+      → entry_at bytes k ≡ has d (get_or levels (m - d) 0) next → Runs bytes levels m (suc d) k
 
 module _ (levels : List ℕ) (m : ℕ) where
   -- later entries change nothing of a chain
@@ -255,7 +254,7 @@ module _ (levels : List ℕ) (m : ℕ) where
       rw (ne_eqb k 0 (λ z. omega (arith, z, f)), e, le-leb 1 (get_or levels (m - d) 0) p, le-leb (get_or levels (m - d) 0) level_limit q, le-leb d m l, lt-ltb next k f) (runs_sound bound (omega arith) r)
 
   -- an entry on top of a chain
-  chain_on : (bytes : List ℕ) (d level next k gap : ℕ) → entry_at bytes k ≡ Has d level next → 1 ≤ level → level ≤ level_limit → d ≤ m → next < k
+  chain_on : (bytes : List ℕ) (d level next k gap : ℕ) → entry_at bytes k ≡ has d level next → 1 ≤ level → level ≤ level_limit → d ≤ m → next < k
       → highest_set (chain bytes m m k) gap ≡ max (cond (eqb (m - d) gap) level 0) (highest_set (chain bytes m m next) gap)
   unfolding chain_step setting highest_set
   chain_on bytes d level next k gap e p q l f =

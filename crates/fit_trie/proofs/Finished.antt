@@ -10,7 +10,7 @@ use borrow.Author.Tests.{eqb-true, eqb-false, le-leb}
 use lib.ListN.{length, get_or, set, take, drop, length-set, length-append, get_or-eq_default}
 use lib.Seq.{get_or-set_same, get_or-set_other, get_or-take, get_or-drop, length-take-le, take_at, drop_at, drop-drop}
 use Rattle.base.specs.Limits.{cell_limit, entry_limit}
-use Rattle.base.specs.declared.Check.TheVariants.{Fine}
+use Rattle.std.specs.Prelude.{Ok, Err}
 use Rattle.table.specs.Table.{cell_kind, entry_kind, head_size, cell_size, cell_room, entry_size, number_at, cell_count, judge_table, cells_from, entries_from, cells_of, entries_of}
 use Rattle.table.proofs.Laws.{fine_table}
 use Rattle.fit.specs.Cells.{is_free, used_from}
@@ -201,5 +201,5 @@ module _ (c e : ℕ) (bytes made : List ℕ) (cell_bytes : length (take (cell_si
       ∙ sym (drop-drop (cell_size * c) head_size table)
       ∙ unfold bytes_of head_bytes two_bytes in drop_at (take (cell_size * c) (put_kinds c bytes)) (take (entry_size * e) made) (cell_size * c) cell_bytes
 
-  pub table_fine : 1 ≤ c → c ≤ cell_limit → e ≤ entry_limit → judge_table table ≡ Fine
+  pub table_fine : 1 ≤ c → c ≤ cell_limit → e ≤ entry_limit → judge_table table ≡ Ok tt
   table_fine l m k = sym (fine_table table (omega (arith, table_length)) (unfold bytes_of head_bytes two_bytes in refl) (unfold bytes_of head_bytes two_bytes in refl) head_cells l m head_entries k table_length)

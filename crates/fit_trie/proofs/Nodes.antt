@@ -11,9 +11,8 @@ use lib.Dec.{leb, eqb}
 use lib.ListN.{length, get_or}
 use Rattle.base.specs.Limits.{symbol_limit, cell_limit}
 use Rattle.base.proofs.Lists.{clash}
-use Rattle.table.specs.Table.{cell_kind, cell_size, cell_room, look}
-use Rattle.table.specs.declared.Look.{Look}
-use Rattle.table.specs.declared.Look.TheVariants.{Hit, Miss}
+use Rattle.table.specs.Table.{cell_kind, cell_size, cell_room, look, Look, hit}
+use Rattle.std.specs.Prelude.{Some, None}
 use Rattle.table.proofs.Laws.{look_hit}
 use Rattle.trie.specs.Paths.{onward, along}
 use Rattle.patterns.specs.Strings.{all_symbols}
@@ -107,11 +106,11 @@ pub record Linked (nodes : List Node) (bytes : List ℕ) : Type 0 where
       → link_in bytes ((node nodes j).base + s) ≡ 0
 
 -- what a hit says of the symbol byte
-hit_symbol : (bytes : List ℕ) (n s l o : ℕ) → look bytes n s ≡ Hit l o → symbol_in bytes n ≡ s
+hit_symbol : (bytes : List ℕ) (n s l o : ℕ) → look bytes n s ≡ hit l o → symbol_in bytes n ≡ s
 unfolding look
 hit_symbol bytes n s l o e = go (leb (cell_size * n + cell_size) (length bytes)) (eqb (kind_in bytes n) cell_kind) (eqb (symbol_in bytes n) s) refl e
   where
-    go : (a b c : Bool) → eqb (symbol_in bytes n) s ≡ c → cond (a && (b && c)) (Hit (link_in bytes n) (output_in bytes n)) Miss ≡ Hit l o → symbol_in bytes n ≡ s
+    go : (a b c : Bool) → eqb (symbol_in bytes n) s ≡ c → cond (a && (b && c)) (hit (link_in bytes n) (output_in bytes n)) None ≡ hit l o → symbol_in bytes n ≡ s
     go true true true p q = eqb-true (symbol_in bytes n) s p
     go true true false p q = clash cc
     go true false c p q = clash cc
@@ -183,14 +182,14 @@ module _ (site : Site) (nodes : List Node) (bytes : List ℕ) (tree : Tree site 
 
   -- a look from a node's base hits its continuations
   pub look_goes : (j s : ℕ) → j < length nodes → Goes (node nodes j) s
-      → look bytes ((node nodes j).base + s) s ≡ Hit (link_in bytes ((node nodes j).base + s)) (output_in bytes ((node nodes j).base + s))
+      → look bytes ((node nodes j).base + s) s ≡ hit (link_in bytes ((node nodes j).base + s)) (output_in bytes ((node nodes j).base + s))
   look_goes j s h g =
       let c = owned.held j s h g in
       sym (look_hit bytes ((node nodes j).base + s) s c.within c.kind c.symbol refl refl)
 
   module _ (sited : Sited site) where
     -- the owner of a cell that a look hits from a base that wasn't taken before
-    hit_owner : (b s l o : ℕ) → get_or site.taken b 0 ≡ 0 → 1 ≤ s → look bytes (b + s) s ≡ Hit l o → Owner nodes (b + s) s
+    hit_owner : (b s l o : ℕ) → get_or site.taken b 0 ≡ 0 → 1 ≤ s → look bytes (b + s) s ≡ hit l o → Owner nodes (b + s) s
     hit_owner b s l o free k e = go (owned.owner (b + s) (λ z. omega (arith, z, p, k)))
       where
         p : symbol_in bytes (b + s) ≡ s
@@ -201,7 +200,7 @@ module _ (site : Site) (nodes : List Node) (bytes : List ℕ) (tree : Tree site 
         go (inr q) = absurd (omega (arith, free, sited.based b s k (q ∙ p)))
 
     -- and nothing else
-    pub look_only : (j s l o : ℕ) → j < length nodes → 1 ≤ s → look bytes ((node nodes j).base + s) s ≡ Hit l o → Goes (node nodes j) s
+    pub look_only : (j s l o : ℕ) → j < length nodes → 1 ≤ s → look bytes ((node nodes j).base + s) s ≡ hit l o → Goes (node nodes j) s
     look_only j s l o h k e =
         let w = hit_owner (node nodes j).base s l o (tree.untaken j h) k e in
         subst (λ (i : ℕ). Goes (node nodes i) s) (tree.apart w.at j w.inside h (omega (arith, w.place))) w.goes
@@ -209,12 +208,12 @@ module _ (site : Site) (nodes : List Node) (bytes : List ℕ) (tree : Tree site 
   module _ (links : Linked nodes bytes) where
     -- a string behind a node is a path
     pub along_goes : (j : ℕ) → j < length nodes → (s : ℕ) → Goes (node nodes j) s
-        → along bytes site.root ((node nodes j).path ▸ s) ≡ Hit (link_in bytes ((node nodes j).base + s)) (output_in bytes ((node nodes j).base + s))
+        → along bytes site.root ((node nodes j).path ▸ s) ≡ hit (link_in bytes ((node nodes j).base + s)) (output_in bytes ((node nodes j).base + s))
     along_goes = tree_each site nodes tree Reached first later
       where
         Reached : ℕ → Type 0
         Reached j = (s : ℕ) → Goes (node nodes j) s
-            → along bytes site.root ((node nodes j).path ▸ s) ≡ Hit (link_in bytes ((node nodes j).base + s)) (output_in bytes ((node nodes j).base + s))
+            → along bytes site.root ((node nodes j).path ▸ s) ≡ hit (link_in bytes ((node nodes j).base + s)) (output_in bytes ((node nodes j).base + s))
 
         first : (j : ℕ) → j < length nodes → (node nodes j).path ≡ [] → Reached j
         first j h e s g =
@@ -237,7 +236,7 @@ module _ (site : Site) (nodes : List Node) (bytes : List ℕ) (tree : Tree site 
     module _ (sited : Sited site) where
       -- and every path stands behind a node: so it is with the paths of fewer than n symbols before their last
       abbrev Only : ℕ → Type 0
-      Only n = (v : List ℕ) (s l o : ℕ) → length v < n → all_symbols (v ▸ s) ≡ true → along bytes site.root (v ▸ s) ≡ Hit l o → Behind nodes (v ▸ s)
+      Only n = (v : List ℕ) (s l o : ℕ) → length v < n → all_symbols (v ▸ s) ≡ true → along bytes site.root (v ▸ s) ≡ hit l o → Behind nodes (v ▸ s)
 
       only_step : (n : ℕ) → Only n → Only (suc n)
       only_step n next [] s l o m a e =
@@ -275,7 +274,7 @@ module _ (site : Site) (nodes : List Node) (bytes : List ℕ) (tree : Tree site 
       only_from zero = λ v s l o m. absurd (omega arith)
       only_from (suc n) = only_step n (only_from n)
 
-      pub along_only : (u : List ℕ) (l o : ℕ) → all_symbols u ≡ true → along bytes site.root u ≡ Hit l o → Behind nodes u
+      pub along_only : (u : List ℕ) (l o : ℕ) → all_symbols u ≡ true → along bytes site.root u ≡ hit l o → Behind nodes u
       unfolding along
       along_only [] l o a e = clash cc
       along_only (x ∷ u) l o a e =

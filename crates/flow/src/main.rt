@@ -3,7 +3,7 @@
 // break.
 #![tactic(auto)]
 
-use base::{Check, Ground};
+use base::Ground;
 use console::Stream;
 use packer::Packing;
 use running::TextAnswer;
@@ -79,7 +79,7 @@ fn print_refused(rt: &HostRuntime, ground: Ground, fresh: bool) {
 fn follow(
     rt: &HostRuntime,
     state: TextState,
-    answer: TextAnswer,
+    answer: Result<Written, Ground>,
     room: &[u8],
     p: Progress,
 ) -> Progress {
@@ -93,7 +93,7 @@ fn follow(
                 cut: out.lost,
             }
         }
-        TextAnswer::Refused(g) => {
+        Err(g) => {
             print_refused(rt, g, p.fresh);
             Progress {
                 state: state,
@@ -214,16 +214,16 @@ fn print_text<'a>(rt: &HostRuntime, customer: &'a [u8], house: &'a [u8], table: 
 fn run<'a>(rt: &HostRuntime, patterns: &[u8], customer: &'a [u8], house: &'a [u8]) {
     let mut room = [0u8; PIECE];
     let packing = packer::pack(patterns, &mut room);
-    if let Packing::Refused(g) = packing {
+    if let Err(g) = packing {
         console::print_refusal(rt, b"flow", Stream::Output, g);
         return;
     }
     let judged = lists::judge_lists(customer, house);
-    if let Check::Refused(g) = judged {
+    if let Err(g) = judged {
         console::print_refusal(rt, b"flow", Stream::Output, g);
         return;
     }
-    if let Packing::Done(size) = packing {
+    if let Ok(size) = packing {
         if size <= room.len() {
             print_text(rt, customer, house, &room[0..size]);
         }

@@ -11,8 +11,8 @@ use borrow.Author.Tests.{eq-eqb, ne_eqb}
 use lib.ListN.{length, get_or, set, take, drop, length-append, length-set}
 use lib.Seq.{get_or-take, length-take-le, take-suc, take-set-le, get_or-set_same}
 use Rattle.base.specs.Limits.{word_limit, room_size, room_per_byte, running_text}
-use Rattle.base.specs.declared.Check.{Check}
-use Rattle.base.specs.declared.Check.TheVariants.{Fine, Refused}
+use Rattle.base.specs.Grounds.{Check}
+use Rattle.std.specs.Prelude.{Ok, Err}
 use Rattle.base.specs.declared.Ground.{Ground}
 use Rattle.base.proofs.Lists.{never, clash}
 use Rattle.rooms.specs.Rooms.{sheet, written, nonzero}
@@ -25,10 +25,9 @@ use Rattle.words.specs.Symbols.{letter, apostrophe}
 use Rattle.words.specs.Words.{judge_word}
 use Rattle.words.proofs.Laws.{word_fits}
 use Rattle.hyphenation.specs.Breaks.{break_sheet}
-use Rattle.hyphenation.specs.Calls.{judge_room, judge_word_alone, Answered, breaks_sheet, breaks_looks, WordBreaks}
-use Rattle.hyphenation.specs.declared.Answer.{Answer}
-use Rattle.hyphenation.specs.declared.Answer.TheVariants as answers
+use Rattle.hyphenation.specs.Calls.{judge_room, judge_word_alone, Answered, breaks_sheet, breaks_looks, WordBreaks, Answer, found}
 use Rattle.table.specs.Table.{root_base, cells_of}
+use Rattle.hyphenation.proofs.Calls.{looks_once}
 use Rattle.hyphenation.proofs.Order.{word_alone_ordered, computed}
 use Rattle.hyphenation.proofs.Theorems.{breaks_few}
 use Rattle.runs.specs.Held.{last_of, but_last, waits, finished}
@@ -47,21 +46,21 @@ unfolding broken
 broken_short left right customer house table word = word_short break_sign (breaks_sheet left right word customer house table) word
 
 -- a judged word, with a break room of its size
-module _ (left right : ℕ) (word customer house table marks : List ℕ) (good : judge_word word_limit word ≡ Fine) (wide : length marks ≡ room_size) {r : Answer} {after : List ℕ}
+module _ (left right : ℕ) (word customer house table marks : List ℕ) (good : judge_word word_limit word ≡ Ok tt) (wide : length marks ≡ room_size) {r : Answer} {after : List ℕ}
     (promise : WordBreaks left right word customer house table marks r after) where
-  alone : judge_word_alone word (length marks) ≡ Fine
+  alone : judge_word_alone word (length marks) ≡ Ok tt
   unfolding judge_word_alone judge_room
   alone = rw (wide, good)
 
   said : Answered (judge_word_alone word (length marks)) (breaks_sheet left right word customer house table) (breaks_looks word customer house table) marks r after
   said = computed (word_alone_ordered word (length marks)) promise
 
-  found : r ≡ answers.Found (nonzero (breaks_sheet left right word customer house table)) (breaks_looks word customer house table)
-  found = said.answered ∙ rw alone
+  finds : r ≡ found (nonzero (breaks_sheet left right word customer house table)) (breaks_looks word customer house table)
+  finds = said.answered ∙ rw alone
 
   -- no word that was judged is refused
-  pub not_refused_word : {g : Ground} {A : Type 0} → r ≡ answers.Refused g → A
-  not_refused_word e = let z : ◌≡◌ {A = Answer} (answers.Found (nonzero (breaks_sheet left right word customer house table)) (breaks_looks word customer house table)) (answers.Refused _) = sym found ∙ e in clash cc
+  pub not_refused_word : {g : Ground} {A : Type 0} → r ≡ Err g → A
+  not_refused_word e = let z : ◌≡◌ {A = Answer} (found (nonzero (breaks_sheet left right word customer house table)) (breaks_looks word customer house table)) (Err _) = sym finds ∙ e in clash cc
 
   sheet_long : length (breaks_sheet left right word customer house table) ≡ room_size
   unfolding break_sheet sheet
@@ -84,24 +83,20 @@ module _ (left right : ℕ) (word customer house table marks : List ℕ) (good :
   pub marked_fits : (sign : List ℕ) → length sign ≡ 2 → (at n : ℕ) → at + room_per_byte * length word ≤ n → at + length (hyphenated sign after word) ≤ n
   marked_fits sign two at n h = omega (arith, h, rw two at (word_short sign after word))
 
-  pub word_shows : {marked looks : ℕ} → r ≡ answers.Found marked looks → {at end : ℕ} {room filled : List ℕ} → Put (hyphenated break_sign after word) at room end filled
+  pub word_shows : {marked looks : ℕ} → r ≡ found marked looks → {at end : ℕ} {room filled : List ℕ} → Put (hyphenated break_sign after word) at room end filled
       → Shows (broken left right customer house table word) (word_looks customer house table word) at room (record { end = end; looks = looks }) filled
   unfolding word_looks
   word_shows e p =
-      let f : answers.Found _ _ ≡ answers.Found (nonzero (breaks_sheet left right word customer house table)) (breaks_looks word customer house table) = sym e ∙ found in
-      let l : _ ≡ breaks_looks word customer house table = looks_same f in
-      record { put = put_as (sym shown) p; looked = l }
-    where
-      looks_same : {a b c d : ℕ} → answers.Found a b ≡ answers.Found c d → b ≡ d
-      looks_same e = cc
+      let f : found _ _ ≡ found (nonzero (breaks_sheet left right word customer house table)) (breaks_looks word customer house table) = sym e ∙ finds in
+      record { put = put_as (sym shown) p; looked = looks_once f }
 
 -- what can be held
 module _ (kept : List ℕ) (can : can_be_held kept ≡ true) (some : length kept ≡ 0 → ⊥) where
-  fine_is : (c : Check) → is_fine c ≡ true → c ≡ Fine
-  fine_is Fine e = refl
-  fine_is (Refused g) e = never e
+  fine_is : (c : Check) → is_fine c ≡ true → c ≡ Ok tt
+  fine_is (Ok _) e = refl
+  fine_is (Err g) e = never e
 
-  pub held_good : (last_of kept ≡ apostrophe → ⊥) → judge_word word_limit kept ≡ Fine
+  pub held_good : (last_of kept ≡ apostrophe → ⊥) → judge_word word_limit kept ≡ Ok tt
   unfolding can_be_held is_word waits
   held_good q =
       let e = rw (ne_eqb (length kept) 0 some, ne_eqb (last_of kept) apostrophe q) at can in
@@ -111,15 +106,15 @@ module _ (kept : List ℕ) (can : can_be_held kept ≡ true) (some : length kept
       go true e = refl
       go false e = e
 
-  pub before_good : last_of kept ≡ apostrophe → judge_word word_limit (but_last kept) ≡ Fine
+  pub before_good : last_of kept ≡ apostrophe → judge_word word_limit (but_last kept) ≡ Ok tt
   unfolding can_be_held is_word waits
   before_good q =
       let e = rw (ne_eqb (length kept) 0 some, eq-eqb (last_of kept) apostrophe q) at can in
       go (judge_word word_limit kept) refl e
     where
-      go : (c : Check) → judge_word word_limit kept ≡ c → (is_fine c || is_fine (judge_word word_limit (but_last kept))) ≡ true → judge_word word_limit (but_last kept) ≡ Fine
-      go Fine p e = never (sym (letter_other (last_of kept) (good_last kept p)) ∙ eq-eqb (last_of kept) apostrophe q)
-      go (Refused g) p e = fine_is (judge_word word_limit (but_last kept)) e
+      go : (c : Check) → judge_word word_limit kept ≡ c → (is_fine c || is_fine (judge_word word_limit (but_last kept))) ≡ true → judge_word word_limit (but_last kept) ≡ Ok tt
+      go (Ok _) p e = never (sym (letter_other (last_of kept) (good_last kept p)) ∙ eq-eqb (last_of kept) apostrophe q)
+      go (Err g) p e = fine_is (judge_word word_limit (but_last kept)) e
 
 none_looks : (customer house table kept : List ℕ) → length kept ≡ 0 → finished_looks customer house table kept ≡ 0
 unfolding finished_looks finished sum
@@ -168,7 +163,7 @@ module _ (left right : ℕ) (customer house table : List ℕ) where
     unfolding cut
     cut_is = ap (λ (k : ℕ). take k kept) (sub-zero (length kept - 1))
 
-    pub cut_good : can_be_held kept ≡ true → judge_word word_limit (take (length kept - 1 - 0) kept) ≡ Fine
+    pub cut_good : can_be_held kept ≡ true → judge_word word_limit (take (length kept - 1 - 0) kept) ≡ Ok tt
     unfolding cut
     cut_good can = ap (judge_word word_limit) cut_is ∙ before_good kept can n q
 
@@ -253,7 +248,7 @@ pub pass_goes : (b run : ℕ) (f : Flow) {room after : List ℕ} {end : ℕ} →
 pass_goes b run f p = record { put = p; looked = sym (add-zero f.looks); sized = refl; ran = refl }
 
 -- the looks of a word, and of what is held
-word_few : (customer house table word : List ℕ) → judge_word word_limit word ≡ Fine → word_looks customer house table word ≤ look_limit
+word_few : (customer house table word : List ℕ) → judge_word word_limit word ≡ Ok tt → word_looks customer house table word ≤ look_limit
 unfolding word_looks
 word_few customer house table word good = omega (arith, breaks_few customer house (cells_of table) root_base word, word_fits word_limit word good)
 

@@ -3,7 +3,6 @@
 
 ghost use Rattle.std.specs.Prelude.{true, [], ◌∷◌, ◌++◌, ◌≡◌, ◌+◌, ◌*◌, ◌≤◌, ◌<◌, length, take};
 ghost use Rattle.base.specs.Limits.{word_limit, room_per_byte};
-ghost use Rattle.base.specs.declared.Check.{Check};
 ghost use Rattle.words.specs.Symbols.{letter, apostrophe};
 ghost use Rattle.words.specs.Words.{judge_word};
 ghost use Rattle.runs.specs.Held.{last_of};
@@ -11,7 +10,7 @@ ghost use Rattle.runs.specs.Reached.{can_be_held};
 ghost use Rattle.flowing.specs.Output.{broken, word_looks, finished_text, finished_looks};
 ghost use Rattle.flowing.specs.Post.{Shows, Holds, Goes, Finishes, Ready, Steps, Flows};
 
-use hyphenation::Answer;
+use hyphenation::Found;
 
 // How far a piece has come: bytes that are held, the run, where the output goes on, and the looks so far.
 #[derive(Clone, Copy)]
@@ -40,18 +39,17 @@ fn put_word<'a>(
     room: &mut [u8],
     at: usize,
 ) -> Shown
-    requires { (judge_word word_limit word.now ≡ Check.Fine) × (at + room_per_byte * length word.now ≤ length room.old) }
+    requires { (judge_word word_limit word.now ≡ Ok tt) × (at + room_per_byte * length word.now ≤ length room.old) }
     ensures { Shows (broken left right customer.now house.now table.now word.now) (word_looks customer.now house.now table.now word.now) at room.old result room.new }
 {
     let mut marks = [0u8; base::ROOM_SIZE];
-    let answer = hyphenation::hyphenate_word(left, right, word, customer, house, table, &mut marks);
-    match answer {
-        Answer::Found { marks: _, looks } => Shown {
+    match hyphenation::hyphenate_word(left, right, word, customer, house, table, &mut marks) {
+        Ok(Found { looks, .. }) => Shown {
             end: writing::put_hyphenated(b"\\-", &marks, word, room, at),
-            looks: looks,
+            looks,
         },
         // No word that was judged is refused.
-        Answer::Refused(_) => Shown { end: at, looks: 0 },
+        Err(_) => Shown { end: at, looks: 0 },
     }
 }
 

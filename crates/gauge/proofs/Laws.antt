@@ -12,9 +12,8 @@ use lib.Seq.{drop-cons}
 use lib.Ieee.{Float, nan, inf, fin, binary64, add, lt, ne, is_nan}
 use lib.Ieee.Compare.{differs_from_itself, nan_differs}
 use Rattle.base.specs.Limits.{room_size, word_limit, width_count, letter_limit, apostrophe_symbol}
-use Rattle.base.specs.Grounds.{Finds, refuse_if}
-use Rattle.base.specs.declared.Check.{Check}
-use Rattle.base.specs.declared.Check.TheVariants.{Fine, Refused}
+use Rattle.base.specs.Grounds.{Finds, refuse_if, Check}
+use Rattle.std.specs.Prelude.{Ok, Err}
 use Rattle.base.specs.declared.Ground.{Ground}
 use Rattle.base.specs.declared.Ground.TheVariants.{RoomShort, BadWidth}
 use Rattle.base.proofs.Grounds.{both_fine, not_refused}
@@ -85,27 +84,27 @@ module _ (g : Gauge) (widths : List Float) {y : Bool} (p : y ≡ bad_width g.hyp
 
 -- the judgement of the call, by the way the code goes
 module _ (g : Gauge) (widths : List Float) (word : List ℕ) (size : ℕ) where
-  pub fit_short : size < room_size → Refused RoomShort ≡ judge_fit g widths word size
+  pub fit_short : size < room_size → Err RoomShort ≡ judge_fit g widths word size
   unfolding judge_fit
   fit_short h = rw (lt-ltb size room_size h)
 
   module _ (h : room_size ≤ size) {own : Check} (o : own ≡ judge_word word_limit word) where
-    pub fit_word_refused : {x : Ground} → own ≡ Refused x → Refused x ≡ judge_fit g widths word size
+    pub fit_word_refused : {x : Ground} → own ≡ Err x → Err x ≡ judge_fit g widths word size
     unfolding judge_fit
     fit_word_refused e = rw (le-ltb size room_size h, sym o ∙ e)
 
-    module _ (f : own ≡ Fine) {z : Bool} (p : z ≡ any_bad (given g widths)) where
-      pub fit_width : z ≡ true → Refused BadWidth ≡ judge_fit g widths word size
+    module _ (f : own ≡ Ok tt) {z : Bool} (p : z ≡ any_bad (given g widths)) where
+      pub fit_width : z ≡ true → Err BadWidth ≡ judge_fit g widths word size
       unfolding judge_fit
       fit_width e = rw (le-ltb size room_size h, sym o ∙ f, sym p ∙ e)
 
-      pub fit_fine : z ≡ false → Fine ≡ judge_fit g widths word size
+      pub fit_fine : z ≡ false → (Ok tt) ≡ judge_fit g widths word size
       unfolding judge_fit
       fit_fine e = rw (le-ltb size room_size h, sym o ∙ f, sym p ∙ e)
 
 -- what a call that isn't refused may go on with
-pub fit_judged : (g : Gauge) (widths : List Float) (word : List ℕ) (size : ℕ) {judged : Check} → judged ≡ judge_fit g widths word size → judged ≡ Fine
-    → (judge_word word_limit word ≡ Fine) × (room_size ≤ size) × (any_bad (given g widths) ≡ false)
+pub fit_judged : (g : Gauge) (widths : List Float) (word : List ℕ) (size : ℕ) {judged : Check} → judged ≡ judge_fit g widths word size → judged ≡ Ok tt
+    → (judge_word word_limit word ≡ Ok tt) × (room_size ≤ size) × (any_bad (given g widths) ≡ false)
 unfolding judge_fit
 fit_judged g widths word size p e =
     let a = both_fine (refuse_if (ltb size room_size) RoomShort) _ (sym p ∙ e) in
@@ -157,7 +156,7 @@ module _ (mark : ℕ) (fits : Bool) (i before : ℕ) where
     break_misfits e = rw (ne_eqb mark 0 m, e)
 
 -- what a word that is measured is: judged, as are its room and the number of widths
-module _ (widths : List Float) (word room : List ℕ) (p : (length widths ≡ width_count) × (judge_word word_limit word ≡ Fine) × (room_size ≤ length room)) where
+module _ (widths : List Float) (word room : List ℕ) (p : (length widths ≡ width_count) × (judge_word word_limit word ≡ Ok tt) × (room_size ≤ length room)) where
   pub some_letter : 1 ≤ length word
   some_letter = word_some word_limit word p.1
 

@@ -6,9 +6,8 @@ use lib.Dec.{ltb}
 use lib.Ieee.{Float}
 use lib.ListN.{length}
 use Rattle.base.specs.Limits.{room_size, word_limit}
-use Rattle.base.specs.Grounds.{Said, Finds, says, first_of}
-use Rattle.base.specs.declared.Check.{Check}
-use Rattle.base.specs.declared.Check.TheVariants as checks
+use Rattle.base.specs.Grounds.{Said, Finds, says, first_of, Check}
+use Rattle.std.specs.Prelude.{Ok, Err}
 use Rattle.base.specs.declared.Ground.{Ground}
 use Rattle.base.specs.declared.Ground.TheVariants.{RoomShort, BadWidth}
 use Rattle.base.proofs.Grounds.{Ordered, ordered_first, ordered_if, said_found, said_refused_lem}
@@ -28,7 +27,7 @@ module _ (g : Gauge) (widths : List Float) (word room : List ℕ) {judged : Chec
   judged_as : {c : Check} → judged ≡ c → Ordered c (fit_grounds g widths word (length room))
   judged_as e = record { same = ap says (sym e) ∙ p }
 
-  pub answer_refused : {x : Ground} → judged ≡ checks.Refused x → fit_said (Refused x) ≡ fit_answer g widths word room
+  pub answer_refused : {x : Ground} → judged ≡ checks.Refused x → fit_said (Err x) ≡ fit_answer g widths word room
   unfolding fit_said fit_answer
   answer_refused e = sym (said_refused_lem (judged_as e) (fit_values g widths word room))
 

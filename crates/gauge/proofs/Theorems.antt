@@ -13,9 +13,8 @@ use lib.ListN.{length, get_or}
 use lib.Ieee.{Float, nan, inf, fin, binary64, add, of_int, lt, is_nan}
 use lib.Ieee.Scale.{finite}
 use Rattle.base.specs.Limits.{room_size, word_limit, width_count}
-use Rattle.base.specs.Grounds.{plain, Finds, Refuses, Row, says, on, first_of, any_holds, one_of}
-use Rattle.base.specs.declared.Check.{Check}
-use Rattle.base.specs.declared.Check.TheVariants.{Fine, Refused}
+use Rattle.base.specs.Grounds.{plain, Finds, Refuses, Row, says, on, first_of, any_holds, one_of, Check}
+use Rattle.std.specs.Prelude.{Ok, Err}
 use Rattle.base.proofs.Grounds.{Ordered, judged_by, said_found, said_refused_lem}
 use Rattle.base.proofs.Lists.{never, both, untrue}
 use Rattle.base.proofs.Order.{finds_exactly, last_exactly, none_found_lem}
@@ -270,7 +269,7 @@ module _ (g : Gauge) (widths : List Float) (word room : List ℕ) where
 
   -- ---- What a call that isn't refused was given.
   module _ (fine : NoGround) where
-    judged : (judge_word word_limit word ≡ Fine) × (room_size ≤ length room) × (any_bad (given g widths) ≡ false)
+    judged : (judge_word word_limit word ≡ Ok tt) × (room_size ≤ length room) × (any_bad (given g widths) ≡ false)
     unfolding says
     judged = fit_judged g widths word (length room) (judged_by (fit_ordered g widths word (length room)) (sym (none_found_lem (fit_grounds g widths word (length room)) [] fine))) refl
 
@@ -341,8 +340,8 @@ symbol_at (b ∷ w) (suc i) = symbol_at w i
 
 -- judged alike and with equal values, two calls answer alike
 answers_alike : (c : Check) {rows more : List Row} (values : List ℕ) → Ordered c rows → Ordered c more → first_of (Finds values) rows ≡ first_of (Finds values) more
-answers_alike Fine values o p = said_found o values ∙ sym (said_found p values)
-answers_alike (Refused x) values o p = said_refused_lem o values ∙ sym (said_refused_lem p values)
+answers_alike (Ok _) values o p = said_found o values ∙ sym (said_found p values)
+answers_alike (Err x) values o p = said_refused_lem o values ∙ sym (said_refused_lem p values)
 
 module _ (g : Gauge) (widths : List Float) (word other room : List ℕ) (same-letters : map lower word ≡ map lower other) where
   widths_alike : (i : ℕ) → width_to widths word i ≡ width_to widths other i

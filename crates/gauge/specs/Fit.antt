@@ -3,8 +3,7 @@ use Rattle.std.specs.Prelude.{ℕ, zero, suc, ◌-◌, Bool, cond, not, ◌&&◌
 use Rattle.std.specs.Float.{binary64}
 use Rattle.std.specs.Float.Ieee.{add}
 use Rattle.base.specs.Limits.{room_size, word_limit}
-use Rattle.base.specs.Grounds.{told, Said, Finds, Refuses, Row, on, first_of, first, refuse_if}
-use Rattle.base.specs.declared.Check.{Check}
+use Rattle.base.specs.Grounds.{told, Said, Finds, Refuses, Row, on, first_of, first, refuse_if, Check}
 use Rattle.base.specs.declared.Ground.TheVariants.{RoomShort, BadWidth}
 use Rattle.words.specs.Words.{word_grounds, judge_word}
 use Rattle.gauge.specs.Widths.{any_bad, width_to, fits_in}
@@ -77,7 +76,7 @@ unfoldable pub fit_said : Fitting → Said
 fit_said Whole = Finds whole_found
 fit_said (Break gap) = Finds (break_found gap)
 fit_said Nowhere = Finds none_found
-fit_said (Refused g) = Refuses (told g)
+fit_said (Err g) = Refuses (told g)
 
 -- The promise is that what the answer says is this.
 unfoldable pub fit_answer : Gauge → List Float → List ℕ → List ℕ → Said

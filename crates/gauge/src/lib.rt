@@ -4,12 +4,11 @@
 ghost use Rattle.std.specs.Prelude.{◌≡◌, true, not, ◌&&◌, cond, [], ◌≤◌, eqb, length};
 ghost use Rattle.base.specs.Limits.{room_size, word_limit, width_count};
 ghost use Rattle.base.specs.Grounds.{Finds, says, first_of};
-ghost use Rattle.base.specs.declared.Check.{Check};
 ghost use Rattle.words.specs.Words.{judge_word, word_byte};
 ghost use Rattle.gauge.specs.Widths.{bad_width, any_bad, letter_width, fits_in};
 ghost use Rattle.gauge.specs.Fit.{given, fit_values, fit_grounds, fit_said, fit_answer};
 
-use base::{Check, Ground};
+use base::Ground;
 
 // The widths of a hyphen and of a line, in millimetres. The letters' widths stand beside it.
 #[derive(Clone, Copy)]
@@ -80,20 +79,17 @@ fn are_bad_widths(gauge: Gauge, widths: &[f64]) -> bool
 }
 
 // The grounds of the call for a room of this size: 5, 2, 4, 3, 13.
-pub fn judge_fit(gauge: Gauge, widths: &[f64; base::WIDTH_COUNT], word: &[u8], size: usize) -> Check
+pub fn judge_fit(gauge: Gauge, widths: &[f64; base::WIDTH_COUNT], word: &[u8], size: usize) -> Result<(), Ground>
     ensures { says result ≡ first_of (Finds []) (fit_grounds gauge widths.now word.now size) }
 {
     if size < base::ROOM_SIZE {
-        return Check::Refused(Ground::RoomShort);
+        return Err(Ground::RoomShort);
     }
-    let own = words::judge_word(word, base::WORD_LIMIT);
-    if let Check::Refused(g) = own {
-        return Check::Refused(g);
-    }
+    words::judge_word(word, base::WORD_LIMIT)?;
     if are_bad_widths(gauge, &widths[..]) {
-        return Check::Refused(Ground::BadWidth);
+        return Err(Ground::BadWidth);
     }
-    Check::Fine
+    Ok(())
 }
 
 // The width of a letter of either case, or of an apostrophe, whose width stands behind the letters'.
@@ -128,8 +124,8 @@ fn last_break(mark: u8, fits: bool, i: usize, before: usize) -> usize
 }
 
 // What is found of a judged word in a judged room.
-fn find_fit(gauge: Gauge, widths: &[f64], word: &[u8], room: &[u8]) -> Fitting
-    requires { (length widths.now ≡ width_count) × (judge_word word_limit word.now ≡ Check.Fine) × (room_size ≤ length room.now) }
+fn find_fit(gauge: Gauge, widths: &[f64], word: &[u8], room: &[u8]) -> Result<Fitting, Ground>
+    requires { (length widths.now ≡ width_count) × (judge_word word_limit word.now ≡ Ok tt) × (room_size ≤ length room.now) }
     ensures { fit_said result ≡ Finds (fit_values gauge widths.now word.now room.now) }
 {
     let hyphen = gauge.hyphen;
@@ -159,12 +155,9 @@ pub fn fit_word(
     widths: &[f64; base::WIDTH_COUNT],
     word: &[u8],
     room: &[u8],
-) -> Fitting
+) -> Result<Fitting, Ground>
     ensures { fit_said result ≡ fit_answer gauge widths.now word.now room.now }
 {
-    let judged = judge_fit(gauge, widths, word, room.len());
-    if let Check::Refused(g) = judged {
-        return Fitting::Refused(g);
-    }
+    judge_fit(gauge, widths, word, room.len())?;
     find_fit(gauge, &widths[..], word, room)
 }

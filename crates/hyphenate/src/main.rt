@@ -6,7 +6,6 @@ ghost use Rattle.std.specs.Prelude.{◌+◌, ◌≤◌, length};
 ghost use Rattle.report.specs.Report.{line_limit};
 ghost use Rattle.hyphenate.specs.State.{Holds};
 
-use base::Check;
 use console::Stream;
 use packer::Packing;
 use std::io::Read;
@@ -277,16 +276,16 @@ fn print_words<'a>(rt: &HostRuntime, customer: &'a [u8], house: &'a [u8], table:
 fn run<'a>(rt: &HostRuntime, patterns: &[u8], customer: &'a [u8], house: &'a [u8]) {
     let mut room = [0u8; PIECE];
     let packing = packer::pack(patterns, &mut room);
-    if let Packing::Refused(g) = packing {
+    if let Err(g) = packing {
         console::print_refusal(rt, b"hyphenate", Stream::Output, g);
         return;
     }
     let judged = lists::judge_lists(customer, house);
-    if let Check::Refused(g) = judged {
+    if let Err(g) = judged {
         console::print_refusal(rt, b"hyphenate", Stream::Output, g);
         return;
     }
-    if let Packing::Done(size) = packing {
+    if let Ok(size) = packing {
         if size <= room.len() {
             print_words(rt, customer, house, &room[0..size]);
         }

@@ -8,7 +8,7 @@ use borrow.Author.Tests.{lt-leb, le-leb, lt-ltb, le-ltb, eq-eqb, ne_eqb, eqb-tru
 use lib.Dec.{leb, ltb, eqb}
 use lib.ListN.{length, get_or, drop, set, drop_of_length-le}
 use Rattle.base.specs.Limits.{room_size, margin_limit}
-use Rattle.base.specs.declared.Check.TheVariants.{Fine, Refused}
+use Rattle.std.specs.Prelude.{Ok, Err}
 use Rattle.base.specs.declared.Ground.TheVariants.{Margin, RoomShort}
 use Rattle.base.proofs.Lists.{cons_at}
 use Rattle.words.specs.Symbols.{hyphen}
@@ -96,11 +96,11 @@ module _ (left right n : ℕ) (level : ℕ → ℕ) (i : ℕ) where
 
 -- grounds 5 and 1
 module _ (size : ℕ) {short : Bool} (p : short ≡ is_short room_size size) where
-  pub room_short : short ≡ true → Refused RoomShort ≡ judge_room size
+  pub room_short : short ≡ true → Err RoomShort ≡ judge_room size
   unfolding judge_room
   room_short q = rw (← p, q)
 
-  pub room_fine : short ≡ false → Fine ≡ judge_room size
+  pub room_fine : short ≡ false → (Ok tt) ≡ judge_room size
   unfolding judge_room
   room_fine q = rw (← p, q)
 
@@ -113,14 +113,14 @@ unfolding bad_margin
 margin_some m h = rw (le-ltb m 1 h)
 
 module _ (left right : ℕ) {a : Bool} (p : a ≡ bad_margin left) where
-  pub margins_left : a ≡ true → Refused Margin ≡ judge_margins left right
+  pub margins_left : a ≡ true → Err Margin ≡ judge_margins left right
   unfolding judge_margins
   margins_left q = rw (← p, q)
 
-  pub margins_right : {b : Bool} → a ≡ false → b ≡ bad_margin right → b ≡ true → Refused Margin ≡ judge_margins left right
+  pub margins_right : {b : Bool} → a ≡ false → b ≡ bad_margin right → b ≡ true → Err Margin ≡ judge_margins left right
   unfolding judge_margins
   margins_right q r s = rw (← p, q, ← r, s)
 
-  pub margins_fine : {b : Bool} → a ≡ false → b ≡ bad_margin right → b ≡ false → Fine ≡ judge_margins left right
+  pub margins_fine : {b : Bool} → a ≡ false → b ≡ bad_margin right → b ≡ false → (Ok tt) ≡ judge_margins left right
   unfolding judge_margins
   margins_fine q r s = rw (← p, q, ← r, s)

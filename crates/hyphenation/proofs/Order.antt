@@ -5,9 +5,8 @@ use mathlib.Core.Bool.{◌||◌}
 use mathlib.Core.List.{List, [], ◌∷◌}
 use mathlib.Core.Path.{◌≡◌, sym, ◌∙◌, ap}
 use Rattle.base.specs.Limits.{word_limit, room_size}
-use Rattle.base.specs.Grounds.{Said, Row}
-use Rattle.base.specs.declared.Check.{Check}
-use Rattle.base.specs.declared.Check.TheVariants.{Fine, Refused}
+use Rattle.base.specs.Grounds.{Said, Row, Check}
+use Rattle.std.specs.Prelude.{Ok, Err}
 use Rattle.base.specs.declared.Ground.TheVariants.{Margin, RoomShort}
 use Rattle.base.proofs.Grounds.{Ordered, ordered_first, ordered_if, said_found, said_refused_lem, told_once, refuses_once, no_refusal}
 use Rattle.rooms.specs.Rooms.{is_short, nonzero}
@@ -15,9 +14,7 @@ use Rattle.words.proofs.Order.{word_ordered}
 use Rattle.lists.proofs.Order.{lists_ordered}
 use Rattle.liang.specs.Breaks.{bad_margin}
 use Rattle.table.proofs.Order.{table_ordered}
-use Rattle.hyphenation.specs.Calls.{room_grounds, margin_grounds, levels_grounds, hyphenate_grounds, word_alone_grounds, answer_said, found_or, room_left, Answers, judge_room, judge_margins, judge_levels, judge_hyphenate, judge_word_alone, answer, room_after, Answered}
-use Rattle.hyphenation.specs.declared.Answer.{Answer}
-use Rattle.hyphenation.specs.declared.Answer.TheVariants as answers
+use Rattle.hyphenation.specs.Calls.{room_grounds, margin_grounds, levels_grounds, hyphenate_grounds, word_alone_grounds, answer_said, found_or, room_left, Answers, judge_room, judge_margins, judge_levels, judge_hyphenate, judge_word_alone, answer, room_after, Answered, Answer}
 
 pub room_ordered : (size : ℕ) → Ordered (judge_room size) (room_grounds size)
 unfolding judge_room room_grounds
@@ -47,21 +44,21 @@ word_alone_ordered word size = ordered_first (room_ordered size) (word_ordered w
 -- no two answers say the same
 answer_once : (r s : Answer) → answer_said r ≡ answer_said s → r ≡ s
 unfolding answer_said
-answer_once (answers.Found m l) (answers.Found n k) e = let a : m ≡ n = cc in let b : l ≡ k = cc in rw (a, b)
-answer_once (answers.Found m l) (answers.Refused h) e = no_refusal e
-answer_once (answers.Refused g) (answers.Found n k) e = no_refusal (sym e)
-answer_once (answers.Refused g) (answers.Refused h) e = ap answers.Refused (told_once g h (refuses_once e))
+answer_once (Ok f) (Ok f') e = let a : f.marks ≡ f'.marks = cc in let b : f.looks ≡ f'.looks = cc in rw (a, b)
+answer_once (Ok f) (Err h) e = no_refusal e
+answer_once (Err g) (Ok f) e = no_refusal (sym e)
+answer_once (Err g) (Err h) e = ap Err (told_once g h (refuses_once e))
 
 -- what is answered and left by a judgement is what its grounds say
 module _ (sheet : List ℕ) (looks : ℕ) {rows : List Row} where
   answer_said_lem : (judged : Check) → Ordered judged rows → answer_said (answer judged sheet looks) ≡ found_or rows sheet looks
   unfolding answer_said
-  answer_said_lem Fine o = sym (said_found o (nonzero sheet ∷ looks ∷ []))
-  answer_said_lem (Refused g) o = sym (said_refused_lem o (nonzero sheet ∷ looks ∷ []))
+  answer_said_lem (Ok _) o = sym (said_found o (nonzero sheet ∷ looks ∷ []))
+  answer_said_lem (Err g) o = sym (said_refused_lem o (nonzero sheet ∷ looks ∷ []))
 
   room_left_lem : (judged : Check) → Ordered judged rows → (room : List ℕ) → room_after judged sheet room ≡ room_left (found_or rows sheet looks) sheet room
-  room_left_lem Fine o room = ap (λ (s : Said). room_left s sheet room) (sym (said_found o (nonzero sheet ∷ looks ∷ [])))
-  room_left_lem (Refused g) o room = ap (λ (s : Said). room_left s sheet room) (sym (said_refused_lem o (nonzero sheet ∷ looks ∷ [])))
+  room_left_lem (Ok _) o room = ap (λ (s : Said). room_left s sheet room) (sym (said_found o (nonzero sheet ∷ looks ∷ [])))
+  room_left_lem (Err g) o room = ap (λ (s : Said). room_left s sheet room) (sym (said_refused_lem o (nonzero sheet ∷ looks ∷ [])))
 
 -- from the promise by judgements to the one by grounds, and back
 module _ {judged : Check} {rows : List Row} (o : Ordered judged rows) {sheet : List ℕ} {looks : ℕ} {room : List ℕ} {r : Answer} {after : List ℕ} where

@@ -6,9 +6,8 @@ use mathlib.Core.Path.{◌≡◌, refl, sym, ◌∙◌, ap}
 use native.Mathlib.Omega.{arith}
 use lib.ListN.{length, take, drop}
 use Rattle.base.specs.Limits.{pattern_limit, word_limit}
-use Rattle.base.specs.Grounds.{first}
-use Rattle.base.specs.declared.Check.{Check}
-use Rattle.base.specs.declared.Check.TheVariants.{Fine, Refused}
+use Rattle.base.specs.Grounds.{first, Check}
+use Rattle.std.specs.Prelude.{Ok, Err, Option, Some, None}
 use Rattle.base.proofs.Lists.{clash}
 use Rattle.rooms.specs.Rooms.{sheet, nonzero, bit}
 use Rattle.rooms.proofs.Sheets.{sheet_same}
@@ -18,8 +17,7 @@ use Rattle.words.proofs.Laws.{row_length}
 use Rattle.words.proofs.Theorems.{same_judgement, same_symbols, same_length}
 use Rattle.lists.specs.Lists.{judge_lists}
 use Rattle.lookup.specs.Find.{find, own_first, find_either}
-use Rattle.lookup.specs.declared.ListLine.{ListLine}
-use Rattle.lookup.specs.declared.ListLine.TheVariants.{At, Nothing}
+use Rattle.lookup.specs.declared.Span.{Span}
 use Rattle.lookup.specs.declared.Located.{Located}
 use Rattle.lookup.specs.declared.Located.TheVariants.{Customer, House, Nowhere}
 use Rattle.hyphenation.specs.Breaks.{break_by, is_break, break_sheet, unless_listed, break_looks}
@@ -28,27 +26,26 @@ use Rattle.table.specs.Table.{root_base, judge_table, cells_of, entries_of}
 use Rattle.walk.specs.Walk.{looks}
 use Rattle.walk.proofs.Count.{looks_few}
 use Rattle.hyphenation.specs.Levels.{level_at, level_sheet, word_looks}
-use Rattle.hyphenation.specs.Calls.{judge_room, judge_margins, judge_levels, judge_hyphenate, judge_word_alone, answer, Levels, Breaks, WordBreaks}
+use Rattle.hyphenation.specs.Calls.{judge_room, judge_margins, judge_levels, judge_hyphenate, judge_word_alone, answer, Levels, Breaks, WordBreaks, Answer, found}
+use Rattle.hyphenation.proofs.Calls.{marks_once, looks_once}
 use Rattle.hyphenation.proofs.Order.{levels_ordered, hyphenate_ordered, word_alone_ordered, promised, computed}
-use Rattle.hyphenation.specs.declared.Answer.{Answer}
-use Rattle.hyphenation.specs.declared.Answer.TheVariants as answers
 
 -- what it says that an answer is a finding
 pub record Finding (judged : Check) (sheet : List ℕ) (count marks looks : ℕ) : Type 0 where
-  pub judged_fine : judged ≡ Fine
+  pub judged_fine : judged ≡ Ok tt
   pub marks_are : marks ≡ nonzero sheet
   pub looks_are : looks ≡ count
 
-pub finding : (judged : Check) (sheet : List ℕ) (count marks looks : ℕ) → answers.Found marks looks ≡ answer judged sheet count → Finding judged sheet count marks looks
-finding Fine sheet count marks looks e = let m : marks ≡ nonzero sheet = cc in let l : looks ≡ count = cc in record { judged_fine = refl; marks_are = m; looks_are = l }
-finding (Refused g) sheet count marks looks e = clash cc
+pub finding : (judged : Check) (sheet : List ℕ) (count marks looks : ℕ) → found marks looks ≡ answer judged sheet count → Finding judged sheet count marks looks
+finding (Ok _) sheet count marks looks e = record { judged_fine = refl; marks_are = marks_once e; looks_are = looks_once e }
+finding (Err g) sheet count marks looks e = clash cc
 
 pub word_few : (cells : List ℕ) (root : ℕ) (word : List ℕ) → word_looks cells root word ≤ pattern_limit * (length word + 2)
 unfolding word_looks
 word_few cells root word = omega (arith, looks_few cells root (row_of word), row_length word)
 
 -- "Over any table, a finding of either call carries the count of document 01's walk": at most 16(n + 2) looks.
-module _ (word table room after : List ℕ) (marks looks : ℕ) (l : Levels word table room (answers.Found marks looks) after) where
+module _ (word table room after : List ℕ) (marks looks : ℕ) (l : Levels word table room (found marks looks) after) where
   pub levels_count : looks ≡ word_looks (cells_of table) root_base word
   levels_count =
       (finding (judge_levels word table (length room)) (level_sheet (cells_of table) (entries_of table) root_base word) _ _ _ (computed (levels_ordered word table (length room)) l).answered).looks_are
@@ -66,7 +63,7 @@ unfolding break_looks
 breaks_few customer house cells root word = listed_few (find_either word customer house) (word_looks cells root word) (pattern_limit * (length word + 2)) (word_few cells root word)
 
 -- the same for the hyphenating call, whether an exception line decides or not
-module _ (left right : ℕ) (word customer house table room after : List ℕ) (marks looks : ℕ) (b : Breaks left right word customer house table room (answers.Found marks looks) after) where
+module _ (left right : ℕ) (word customer house table room after : List ℕ) (marks looks : ℕ) (b : Breaks left right word customer house table room (found marks looks) after) where
   breaks_count : looks ≡ break_looks customer house (cells_of table) root_base word
   breaks_count =
       (finding (judge_hyphenate left right word customer house table (length room)) (break_sheet left right customer house (cells_of table) (entries_of table) root_base word) _ _ _ (computed (hyphenate_ordered left right word customer house table (length room)) b).answered).looks_are
@@ -140,35 +137,35 @@ module _ (word other : List ℕ) (letters : map lower word ≡ map lower other) 
       )
 
 -- The word's line in one list, as a list of none or one.
-pub own_line : List ℕ → ListLine → List (List ℕ)
-own_line text (At start end) = take (end - start) (drop start text) ∷ []
-own_line text Nothing = []
+pub own_line : List ℕ → Option Span → List (List ℕ)
+own_line text (Some line) = take (line.end - line.start) (drop line.start text) ∷ []
+own_line text None = []
 
 -- two lists agree on a word: both have no line for it, or both have the same
 pub Agree : (word text text' : List ℕ) → Type 0
 Agree word text text' = own_line text (find word text) ≡ own_line text' (find word text')
 
-lines_decide : (f o f' o' : ListLine) (c h c' h' : List ℕ) (by_line : List ℕ → ℕ → Bool) (by_level : ℕ → Bool) (i : ℕ) → own_line c f ≡ own_line c' f' → own_line h o ≡ own_line h' o'
+lines_decide : (f o f' o' : Option Span) (c h c' h' : List ℕ) (by_line : List ℕ → ℕ → Bool) (by_level : ℕ → Bool) (i : ℕ) → own_line c f ≡ own_line c' f' → own_line h o ≡ own_line h' o'
     → break_by (own_first f o) c h by_line by_level i ≡ break_by (own_first f' o') c' h' by_line by_level i
 unfolding own_line
-lines_decide (At s e) o (At s' e') o' c h c' h' by_line by_level i p q = let l : take (e - s) (drop s c) ≡ take (e' - s') (drop s' c') = cc in rw l
-lines_decide (At s e) o Nothing o' c h c' h' by_line by_level i p q = clash cc
-lines_decide Nothing o (At s' e') o' c h c' h' by_line by_level i p q = clash cc
-lines_decide Nothing (At s e) Nothing (At s' e') c h c' h' by_line by_level i p q = let l : take (e - s) (drop s h) ≡ take (e' - s') (drop s' h') = cc in rw l
-lines_decide Nothing (At s e) Nothing Nothing c h c' h' by_line by_level i p q = clash cc
-lines_decide Nothing Nothing Nothing (At s' e') c h c' h' by_line by_level i p q = clash cc
-lines_decide Nothing Nothing Nothing Nothing c h c' h' by_line by_level i p q = refl
+lines_decide (Some line) o (Some other) o' c h c' h' by_line by_level i p q = let l : take (line.end - line.start) (drop line.start c) ≡ take (other.end - other.start) (drop other.start c') = cc in rw l
+lines_decide (Some line) o None o' c h c' h' by_line by_level i p q = clash cc
+lines_decide None o (Some line) o' c h c' h' by_line by_level i p q = clash cc
+lines_decide None (Some line) None (Some other) c h c' h' by_line by_level i p q = let l : take (line.end - line.start) (drop line.start h) ≡ take (other.end - other.start) (drop other.start h') = cc in rw l
+lines_decide None (Some line) None None c h c' h' by_line by_level i p q = clash cc
+lines_decide None None None (Some line) c h c' h' by_line by_level i p q = clash cc
+lines_decide None None None None c h c' h' by_line by_level i p q = refl
 
-lines_count : (f o f' o' : ListLine) (c h c' h' : List ℕ) (n : ℕ) → own_line c f ≡ own_line c' f' → own_line h o ≡ own_line h' o'
+lines_count : (f o f' o' : Option Span) (c h c' h' : List ℕ) (n : ℕ) → own_line c f ≡ own_line c' f' → own_line h o ≡ own_line h' o'
     → unless_listed (own_first f o) n ≡ unless_listed (own_first f' o') n
 unfolding own_line
-lines_count (At s e) o (At s' e') o' c h c' h' n p q = refl
-lines_count (At s e) o Nothing o' c h c' h' n p q = clash cc
-lines_count Nothing o (At s' e') o' c h c' h' n p q = clash cc
-lines_count Nothing (At s e) Nothing (At s' e') c h c' h' n p q = refl
-lines_count Nothing (At s e) Nothing Nothing c h c' h' n p q = clash cc
-lines_count Nothing Nothing Nothing (At s' e') c h c' h' n p q = clash cc
-lines_count Nothing Nothing Nothing Nothing c h c' h' n p q = refl
+lines_count (Some line) o (Some other) o' c h c' h' n p q = refl
+lines_count (Some line) o None o' c h c' h' n p q = clash cc
+lines_count None o (Some line) o' c h c' h' n p q = clash cc
+lines_count None (Some line) None (Some other) c h c' h' n p q = refl
+lines_count None (Some line) None None c h c' h' n p q = clash cc
+lines_count None None None (Some line) c h c' h' n p q = clash cc
+lines_count None None None None c h c' h' n p q = refl
 
 -- "Other lines don't matter: two sets of good lists that agree on a word's lines, or on having none, give it the same breaks and
 -- count over the same table and margins."
@@ -182,7 +179,7 @@ module _ (word c h c' h' : List ℕ) (own : Agree word c c') (other : Agree word
   unfolding break_looks find_either Agree
   agree_count cells root = lines_count (find word c) (find word h) (find word c') (find word h') c h c' h' (word_looks cells root word) own other
 
-  pub other_lines : (left right : ℕ) (table room : List ℕ) {r s : Answer} {after after' : List ℕ} → judge_lists c h ≡ Fine → judge_lists c' h' ≡ Fine
+  pub other_lines : (left right : ℕ) (table room : List ℕ) {r s : Answer} {after after' : List ℕ} → judge_lists c h ≡ Ok tt → judge_lists c' h' ≡ Ok tt
       → Breaks left right word c h table room r after → Breaks left right word c' h' table room s after' → (r ≡ s) × (after ≡ after')
   unfolding judge_hyphenate
   other_lines left right table room g g' p q =
@@ -195,12 +192,12 @@ module _ (word c h c' h' : List ℕ) (own : Agree word c c') (other : Agree word
 
 -- Judged once: over margins, lists and a table that were judged good, the call for a word alone keeps the promise of the
 -- hyphenating call.
-alone : (judged : Check) → first judged Fine ≡ judged
-alone Fine = refl
-alone (Refused g) = refl
+alone : (judged : Check) → first judged (Ok tt) ≡ judged
+alone (Ok _) = refl
+alone (Err g) = refl
 
 pub judged_once : (left right : ℕ) (word customer house table room : List ℕ) {r : Answer} {after : List ℕ}
-    → judge_margins left right ≡ Fine → judge_lists customer house ≡ Fine → judge_table table ≡ Fine
+    → judge_margins left right ≡ Ok tt → judge_lists customer house ≡ Ok tt → judge_table table ≡ Ok tt
     → WordBreaks left right word customer house table room r after → Breaks left right word customer house table room r after
 unfolding judge_hyphenate judge_word_alone
 judged_once left right word customer house table room m l t w =

@@ -1,9 +1,8 @@
 -- The levels call and the hyphenating call: their grounds in order, their answers, and what they leave in the room.
-use Rattle.std.specs.Prelude.{ℕ, ◌||◌, List, [], ◌∷◌, ◌++◌, ◌≡◌, length}
+use Rattle.std.specs.Prelude.{ℕ, ◌||◌, List, [], ◌∷◌, ◌++◌, ◌≡◌, length, Ok, Err, Result}
 use Rattle.base.specs.Limits.{word_limit, room_size}
-use Rattle.base.specs.Grounds.{told, Said, Finds, Refuses, Row, on, first_of, first, refuse_if}
-use Rattle.base.specs.declared.Check.{Check}
-use Rattle.base.specs.declared.Check.TheVariants.{Fine, Refused}
+use Rattle.base.specs.Grounds.{told, Said, Finds, Refuses, Row, on, first_of, first, refuse_if, Check}
+use Rattle.base.specs.declared.Ground.{Ground}
 use Rattle.base.specs.declared.Ground.TheVariants.{Margin, RoomShort}
 use Rattle.words.specs.Words.{word_grounds, judge_word}
 use Rattle.lists.specs.Lists.{list_grounds, judge_lists}
@@ -12,8 +11,7 @@ use Rattle.table.specs.Table.{root_base, table_grounds, judge_table, cells_of, e
 use Rattle.rooms.specs.Rooms.{is_short, written, nonzero}
 use Rattle.hyphenation.specs.Levels.{level_sheet, word_looks}
 use Rattle.hyphenation.specs.Breaks.{break_sheet, break_looks}
-use Rattle.hyphenation.specs.declared.Answer.{Answer}
-use Rattle.hyphenation.specs.declared.Answer.TheVariants as answers
+use Rattle.hyphenation.specs.declared.Found.{Found}
 
 -- Ground 5: "break or level room under 64 bytes".
 unfoldable pub room_grounds : ℕ → List Row
@@ -36,10 +34,17 @@ hyphenate_grounds left right word customer house table size =
 unfoldable pub word_alone_grounds : List ℕ → ℕ → List Row
 word_alone_grounds word size = room_grounds size ++ word_grounds word_limit word
 
+-- What a call answers: a finding, or why it refuses.
+abbrev pub Answer : Type 0
+Answer = Result Found Ground
+
+abbrev pub found : ℕ → ℕ → Answer
+found marks looks = Ok (record { marks = marks; looks = looks })
+
 -- What an answer says: "the number of breaks and the count", or of levels that aren't 0; or why the call refuses.
 unfoldable pub answer_said : Answer → Said
-answer_said (answers.Found marks looks) = Finds (marks ∷ looks ∷ [])
-answer_said (answers.Refused g) = Refuses (told g)
+answer_said (Ok f) = Finds (f.marks ∷ f.looks ∷ [])
+answer_said (Err g) = Refuses (told g)
 
 -- What a call says by the order of its grounds: a finding tells how many bytes of its sheet aren't 0, and the count of looks.
 abbrev pub found_or : List Row → List ℕ → ℕ → Said
@@ -76,12 +81,12 @@ unfoldable pub judge_word_alone : List ℕ → ℕ → Check
 judge_word_alone word size = first (judge_room size) (judge_word word_limit word)
 
 abbrev pub answer : Check → List ℕ → ℕ → Answer
-answer Fine sheet looks = answers.Found (nonzero sheet) looks
-answer (Refused g) sheet looks = answers.Refused g
+answer (Ok _) sheet looks = found (nonzero sheet) looks
+answer (Err g) sheet looks = Err g
 
 abbrev pub room_after : Check → List ℕ → List ℕ → List ℕ
-room_after Fine sheet room = written room_size sheet room
-room_after (Refused g) sheet room = room
+room_after (Ok _) sheet room = written room_size sheet room
+room_after (Err g) sheet room = room
 
 pub record Answered (judged : Check) (sheet : List ℕ) (looks : ℕ) (room : List ℕ) (r : Answer) (after : List ℕ) : Type 0 where
   pub answered : r ≡ answer judged sheet looks
@@ -101,7 +106,7 @@ Levels word table room = Answers (levels_grounds word table (length room))
 
 -- Its part behind all judgements, over a table's cells and entries.
 abbrev pub LevelsFound : (cells entries : List ℕ) (root : ℕ) (word room : List ℕ) → Answer → List ℕ → Type 0
-LevelsFound cells entries root word room = Answered Fine (level_sheet cells entries root word) (word_looks cells root word) room
+LevelsFound cells entries root word room = Answered (Ok tt) (level_sheet cells entries root word) (word_looks cells root word) room
 
 -- The hyphenating call's sheet and count over a table.
 abbrev pub breaks_sheet : ℕ → ℕ → List ℕ → List ℕ → List ℕ → List ℕ → List ℕ
@@ -127,7 +132,7 @@ Breaks left right word customer house table room = Answers (hyphenate_grounds le
 -- Its part behind all judgements, over a table's cells and entries.
 abbrev pub BreaksFound : (left right : ℕ) (word customer house cells entries : List ℕ) (root : ℕ) (room : List ℕ) → Answer → List ℕ → Type 0
 BreaksFound left right word customer house cells entries root room =
-    Answered Fine (break_sheet left right customer house cells entries root word) (break_looks customer house cells root word) room
+    Answered (Ok tt) (break_sheet left right customer house cells entries root word) (break_looks customer house cells root word) room
 
 -- The hyphenating call for a word alone: what it answers for a room of this size, and its promise.
 abbrev pub word_answer : ℕ → ℕ → List ℕ → List ℕ → List ℕ → List ℕ → ℕ → Answer

@@ -4,7 +4,6 @@
 ghost use Rattle.std.specs.Prelude.{[], ◌≡◌, ◌≤◌, length, get_or};
 ghost use Rattle.base.specs.Limits.{room_size, word_limit};
 ghost use Rattle.base.specs.Grounds.{Finds, says, first_of};
-ghost use Rattle.base.specs.declared.Check.{Check};
 ghost use Rattle.words.specs.Words.{judge_word};
 ghost use Rattle.liang.specs.Breaks.{bad_margin, in_margins, level_break};
 ghost use Rattle.rooms.specs.Rooms.{sheet, written, bit};
@@ -13,24 +12,24 @@ ghost use Rattle.hyphenation.specs.Breaks.{mark_hyphens};
 ghost use Rattle.hyphenation.specs.Post.{Done, line_sheet, odd_sheet, Inside};
 ghost use Rattle.hyphenation.specs.Calls.{room_grounds, margin_grounds, levels_grounds, hyphenate_grounds, word_alone_grounds, LevelsFound, Levels, BreaksFound, Breaks, WordBreaks};
 
-use base::{Check, Ground};
+use base::Ground;
 use lookup::Located;
 
-// What a call answers: how many bytes of the room it set, with the count of looks, or why it refuses.
+// What a call found: how many bytes of the room it set, and the count of looks.
 #[derive(Clone, Copy)]
-pub enum Answer {
-    Found { marks: usize, looks: usize },
-    Refused(Ground),
+pub struct Found {
+    pub marks: usize,
+    pub looks: usize,
 }
 
 // Ground 5.
-pub fn judge_room(size: usize) -> Check
+pub fn judge_room(size: usize) -> Result<(), Ground>
     ensures { says result ≡ first_of (Finds []) (room_grounds size) }
 {
     if rooms::is_short(size, base::ROOM_SIZE) {
-        return Check::Refused(Ground::RoomShort);
+        return Err(Ground::RoomShort);
     }
-    Check::Fine
+    Ok(())
 }
 
 fn is_bad_margin(margin: usize) -> bool
@@ -43,42 +42,33 @@ fn is_bad_margin(margin: usize) -> bool
 }
 
 // Ground 1.
-pub fn judge_margins(left: usize, right: usize) -> Check
+pub fn judge_margins(left: usize, right: usize) -> Result<(), Ground>
     ensures { says result ≡ first_of (Finds []) (margin_grounds left right) }
 {
     if is_bad_margin(left) {
-        return Check::Refused(Ground::Margin);
+        return Err(Ground::Margin);
     }
     if is_bad_margin(right) {
-        return Check::Refused(Ground::Margin);
+        return Err(Ground::Margin);
     }
-    Check::Fine
+    Ok(())
 }
 
 // The grounds of the levels call: 5, 2, 4, 3, 9.
-pub fn judge_levels(word: &[u8], table: &[u8], size: usize) -> Check
+pub fn judge_levels(word: &[u8], table: &[u8], size: usize) -> Result<(), Ground>
     ensures { says result ≡ first_of (Finds []) (levels_grounds word.now table.now size) }
 {
-    let room = judge_room(size);
-    if let Check::Refused(g) = room {
-        return Check::Refused(g);
-    }
-    let own = words::judge_word(word, base::WORD_LIMIT);
-    if let Check::Refused(g) = own {
-        return Check::Refused(g);
-    }
+    judge_room(size)?;
+    words::judge_word(word, base::WORD_LIMIT)?;
     table::judge_table(table)
 }
 
 // The grounds of the hyphenating call for a word alone: 5, 2, 4, 3.
-pub fn judge_word_alone(word: &[u8], size: usize) -> Check
+pub fn judge_word_alone(word: &[u8], size: usize) -> Result<(), Ground>
     ensures { says result ≡ first_of (Finds []) (word_alone_grounds word.now size) }
 {
-    let room = judge_room(size);
-    if let Check::Refused(g) = room {
-        return Check::Refused(g);
-    }
-    words::judge_word(word, base::WORD_LIMIT)
+    judge_room(size)?;
+    words::judge_word(word, base::WORD_LIMIT) // its own grounds
 }
 
 // The grounds of the hyphenating call: 1, 5, 2, 4, 3, 8, 6, 9.
@@ -90,25 +80,13 @@ pub fn judge_hyphenate(
     house: &[u8],
     table: &[u8],
     size: usize,
-) -> Check
+) -> Result<(), Ground>
     ensures { says result ≡ first_of (Finds []) (hyphenate_grounds left right word.now customer.now house.now table.now size) }
 {
-    let margins = judge_margins(left, right);
-    if let Check::Refused(g) = margins {
-        return Check::Refused(g);
-    }
-    let room = judge_room(size);
-    if let Check::Refused(g) = room {
-        return Check::Refused(g);
-    }
-    let own = words::judge_word(word, base::WORD_LIMIT);
-    if let Check::Refused(g) = own {
-        return Check::Refused(g);
-    }
-    let lists = lists::judge_lists(customer, house);
-    if let Check::Refused(g) = lists {
-        return Check::Refused(g);
-    }
+    judge_margins(left, right)?;
+    judge_room(size)?;
+    words::judge_word(word, base::WORD_LIMIT)?;
+    lists::judge_lists(customer, house)?;
     table::judge_table(table)
 }
 
@@ -165,18 +143,15 @@ fn put_breaks(left: usize, right: usize, n: usize, levels: &[u8; base::ROOM_SIZE
 }
 
 // The levels of a judged word in a judged room.
-fn find_levels(cells: &[u8], entries: &[u8], root: u16, word: &[u8], room: &mut [u8]) -> Answer
-    requires { (judge_word word_limit word.now ≡ Check.Fine) × (room_size ≤ length room.old) }
+fn find_levels(cells: &[u8], entries: &[u8], root: u16, word: &[u8], room: &mut [u8]) -> Result<Found, Ground>
+    requires { (judge_word word_limit word.now ≡ Ok tt) × (room_size ≤ length room.old) }
     ensures { LevelsFound cells.now entries.now root word.now room.old result room.new }
 {
     let mut levels = [0u8; base::ROOM_SIZE];
     let looks = walk::walk_word(cells, entries, root, word, &mut levels);
     rooms::copy_to(room, 0, &levels, base::ROOM_SIZE);
     let marks = rooms::count_marks(room, base::ROOM_SIZE);
-    Answer::Found {
-        marks: marks,
-        looks: looks,
-    }
+    Ok(Found { marks, looks })
 }
 
 // The breaks of a word of n letters by its exception line.
@@ -198,7 +173,7 @@ fn put_level_breaks(
     word: &[u8],
     room: &mut [u8],
 ) -> usize
-    requires { (judge_word word_limit word.now ≡ Check.Fine) × (room_size ≤ length room.old) }
+    requires { (judge_word word_limit word.now ≡ Ok tt) × (room_size ≤ length room.old) }
     ensures { Done (odd_sheet left right cells.now entries.now root word.now) (word_looks cells.now root word.now) room.old result room.new }
 {
     let mut levels = [0u8; base::ROOM_SIZE];
@@ -218,8 +193,8 @@ fn find_breaks<'a>(
     entries: &[u8],
     root: u16,
     room: &mut [u8],
-) -> Answer
-    requires { (judge_word word_limit word.now ≡ Check.Fine) × (room_size ≤ length room.old) }
+) -> Result<Found, Ground>
+    requires { (judge_word word_limit word.now ≡ Ok tt) × (room_size ≤ length room.old) }
     ensures { BreaksFound left right word.now customer.now house.now cells.now entries.now root room.old result room.new }
 {
     let at = lookup::find_either(word, customer, house);
@@ -235,20 +210,14 @@ fn find_breaks<'a>(
         Located::Nowhere => put_level_breaks(left, right, cells, entries, root, word, room),
     };
     let marks = rooms::count_marks(room, base::ROOM_SIZE);
-    Answer::Found {
-        marks: marks,
-        looks: looks,
-    }
+    Ok(Found { marks, looks })
 }
 
 // The levels call.
-pub fn levels(word: &[u8], table: &[u8], room: &mut [u8]) -> Answer
+pub fn levels(word: &[u8], table: &[u8], room: &mut [u8]) -> Result<Found, Ground>
     ensures { Levels word.now table.now room.old result room.new }
 {
-    let judged = judge_levels(word, table, room.len());
-    if let Check::Refused(g) = judged {
-        return Answer::Refused(g);
-    }
+    judge_levels(word, table, room.len())?;
     let cells = table::cells_of(table);
     let entries = table::entries_of(table);
     find_levels(cells, entries, table::ROOT_BASE, word, room)
@@ -263,13 +232,10 @@ pub fn hyphenate<'a>(
     house: &'a [u8],
     table: &[u8],
     room: &mut [u8],
-) -> Answer
+) -> Result<Found, Ground>
     ensures { Breaks left right word.now customer.now house.now table.now room.old result room.new }
 {
-    let judged = judge_hyphenate(left, right, word, customer, house, table, room.len());
-    if let Check::Refused(g) = judged {
-        return Answer::Refused(g);
-    }
+    judge_hyphenate(left, right, word, customer, house, table, room.len())?;
     let cells = table::cells_of(table);
     let entries = table::entries_of(table);
     find_breaks(
@@ -295,13 +261,10 @@ pub fn hyphenate_word<'a>(
     house: &'a [u8],
     table: &[u8],
     room: &mut [u8],
-) -> Answer
+) -> Result<Found, Ground>
     ensures { WordBreaks left right word.now customer.now house.now table.now room.old result room.new }
 {
-    let judged = judge_word_alone(word, room.len());
-    if let Check::Refused(g) = judged {
-        return Answer::Refused(g);
-    }
+    judge_word_alone(word, room.len())?;
     let cells = table::cells_of(table);
     let entries = table::entries_of(table);
     find_breaks(

@@ -8,10 +8,9 @@ use Rattle.base.specs.Limits.{pattern_text, exception_text, customer_list, house
 use Rattle.base.specs.Grounds.{says, first_of}
 use Rattle.base.specs.declared.Ground.TheVariants.{TextLong}
 use Rattle.base.proofs.Grounds.{Ordered, ordered_first, ordered_if}
-use Rattle.lists.specs.Lists.{judge_lines, size_grounds, bad_line, pattern_grounds, exception_grounds, list_grounds, judge_size, bad_pattern, bad_exception, judge_patterns, judge_exceptions, judge_lists}
+use Rattle.lists.specs.Lists.{judge_lines, size_grounds, bad_line, pattern_grounds, exception_grounds, list_grounds, judge_size, bad_pattern, bad_exception, judge_patterns, judge_exceptions, judge_lists, Lines}
 use Rattle.lists.specs.declared.Form.TheVariants.{Patterns, Exceptions}
-use Rattle.lists.specs.declared.Lines.{Lines}
-use Rattle.lists.specs.declared.Lines.TheVariants.{Good, BadAt}
+use Rattle.std.specs.Prelude.{Ok, Err}
 
 pub size_ordered : (limit : ℕ) (text : List ℕ) → Ordered (judge_size limit text) (size_grounds limit text)
 unfolding judge_size size_grounds
@@ -19,13 +18,13 @@ size_ordered limit text = ordered_if (ltb limit (length text)) TextLong
 
 bad_pattern_ordered : (lines : Lines) → Ordered (bad_pattern lines) (bad_line 7 0 lines ∷ [])
 unfolding says first_of
-bad_pattern_ordered Good = record { same = refl }
-bad_pattern_ordered (BadAt offset) = record { same = refl }
+bad_pattern_ordered (Ok _) = record { same = refl }
+bad_pattern_ordered (Err offset) = record { same = refl }
 
 bad_exception_ordered : (list : ℕ) (lines : Lines) → Ordered (bad_exception list lines) (bad_line 6 list lines ∷ [])
 unfolding says first_of
-bad_exception_ordered list Good = record { same = refl }
-bad_exception_ordered list (BadAt offset) = record { same = refl }
+bad_exception_ordered list (Ok _) = record { same = refl }
+bad_exception_ordered list (Err offset) = record { same = refl }
 
 pub patterns_ordered : (text : List ℕ) → Ordered (judge_patterns text) (pattern_grounds text)
 unfolding judge_patterns pattern_grounds size_grounds

@@ -1,17 +1,17 @@
 -- Whole text lists: the first bad line, and the judgements by size and lines.
-use Rattle.std.specs.Prelude.{ℕ, ◌+◌, Bool, true, false, cond, ◌&&◌, List, [], ◌∷◌, ltb, length}
+use Rattle.std.specs.Prelude.{ℕ, ◌+◌, Bool, true, false, cond, ◌&&◌, List, [], ◌∷◌, ltb, length, ⊤, Result, Ok, Err}
 use Rattle.base.specs.Limits.{pattern_text, exception_text, customer_list, house_list}
-use Rattle.base.specs.Grounds.{Row, on, on_line, first, refuse_if}
-use Rattle.base.specs.declared.Check.{Check}
-use Rattle.base.specs.declared.Check.TheVariants.{Fine, Refused}
+use Rattle.base.specs.Grounds.{Row, on, on_line, first, refuse_if, Check}
 use Rattle.base.specs.declared.Ground.TheVariants.{TextLong, BadPattern, BadException}
 use Rattle.words.specs.Symbols.{symbols_of}
 use Rattle.lines.specs.Lines.{cut, good_pattern, good_exception}
 use Rattle.lines.specs.Order.{before}
 use Rattle.lists.specs.declared.Form.{Form}
 use Rattle.lists.specs.declared.Form.TheVariants.{Patterns, Exceptions}
-use Rattle.lists.specs.declared.Lines.{Lines}
-use Rattle.lists.specs.declared.Lines.TheVariants.{Good, BadAt}
+
+-- What there is to say of a list's lines: they are good, or where the first bad one begins.
+abbrev pub Lines : Type 0
+Lines = Result ⊤ ℕ
 
 -- Which lines are good as they stand goes by the form of the list.
 unfoldable pub good_line : Form → List ℕ → Bool
@@ -21,9 +21,9 @@ good_line Exceptions line = good_exception line
 -- "A line is also bad if it doesn't ascend from the line above." A good line has symbols and so ascends from the empty
 -- `above` that stands for none. `at` is the offset of the first line given.
 unfoldable pub first_bad : Form → ℕ → List ℕ → List (List ℕ) → Lines
-first_bad form at above [] = Good
+first_bad form at above [] = Ok tt
 first_bad form at above (line ∷ rest) =
-    cond (good_line form line && before (symbols_of above) (symbols_of line)) (first_bad form (at + length line) line rest) (BadAt at)
+    cond (good_line form line && before (symbols_of above) (symbols_of line)) (first_bad form (at + length line) line rest) (Err at)
 
 -- The "first bad line's offset" of a whole text, or that there is none.
 unfoldable pub judge_lines : Form → List ℕ → Lines
@@ -38,12 +38,12 @@ size_grounds limit text = over_size limit text ∷ []
 
 -- Grounds 7 and 6: is a line bad, and which is the first? 7 names no list.
 abbrev pub is_bad : Lines → Bool
-is_bad Good = false
-is_bad (BadAt offset) = true
+is_bad (Ok _) = false
+is_bad (Err offset) = true
 
 abbrev pub offset_of : Lines → ℕ
-offset_of Good = 0
-offset_of (BadAt offset) = offset
+offset_of (Ok _) = 0
+offset_of (Err offset) = offset
 
 abbrev pub bad_line : ℕ → ℕ → Lines → Row
 bad_line number list lines = on_line number list (offset_of lines) (is_bad lines)
@@ -71,12 +71,12 @@ judge_size limit text = refuse_if (ltb limit (length text)) TextLong
 
 -- A bad line as a refusal: 7 with its offset, or 6 with the list and its offset.
 abbrev pub bad_pattern : Lines → Check
-bad_pattern Good = Fine
-bad_pattern (BadAt offset) = Refused (BadPattern offset)
+bad_pattern (Ok _) = Ok tt
+bad_pattern (Err offset) = Err (BadPattern offset)
 
 abbrev pub bad_exception : ℕ → Lines → Check
-bad_exception list Good = Fine
-bad_exception list (BadAt offset) = Refused (BadException list offset)
+bad_exception list (Ok _) = Ok tt
+bad_exception list (Err offset) = Err (BadException list offset)
 
 unfoldable pub judge_patterns : List ℕ → Check
 judge_patterns text = first (judge_size pattern_text text) (bad_pattern (judge_lines Patterns text))

@@ -5,9 +5,10 @@ ghost use Rattle.std.specs.Prelude.{[], ◌≡◌, ◌+◌, drop};
 ghost use Rattle.base.specs.Grounds.{Finds, says, first_of};
 ghost use Rattle.lines.specs.Lines.{line_length, first_line};
 ghost use Rattle.lines.specs.Ends.{end_if};
+ghost use Rattle.lists.specs.declared.Form.{Form};
 ghost use Rattle.lists.specs.Lists.{good_line, judge_lines, size_grounds, bad_pattern, bad_exception, pattern_grounds, exception_grounds, list_grounds};
 
-use base::{Check, Ground};
+use base::Ground;
 use lines::End;
 
 // What the lines of a list are.
@@ -15,13 +16,6 @@ use lines::End;
 pub enum Form {
     Patterns,
     Exceptions,
-}
-
-// What there is to say of a list's lines.
-#[derive(Clone, Copy)]
-pub enum Lines {
-    Good,
-    BadAt(usize),
 }
 
 // Where the line that begins at a place ends, if it is good as it stands.
@@ -35,7 +29,7 @@ fn good_end(form: Form, text: &[u8], at: usize) -> End
 }
 
 // The first line that is bad by itself or does not ascend from the one above. Each byte is read a fixed number of times.
-pub fn judge_lines(form: Form, text: &[u8]) -> Lines
+pub fn judge_lines(form: Form, text: &[u8]) -> Result<(), usize>
     ensures { result ≡ judge_lines form text.now }
 {
     let mut above = 0;
@@ -43,84 +37,55 @@ pub fn judge_lines(form: Form, text: &[u8]) -> Lines
     while at < text.len() {
         let found = good_end(form, text, at);
         let End::At(end) = found else {
-            return Lines::BadAt(at); // bad as it stands
+            return Err(at); // bad as it stands
         };
         if !lines::ascends(&text[above..at], &text[at..end]) {
-            return Lines::BadAt(at);
+            return Err(at);
         }
         above = at;
         at = end;
     }
-    Lines::Good
+    Ok(())
 }
 
-pub fn judge_size(limit: usize, text: &[u8]) -> Check
+pub fn judge_size(limit: usize, text: &[u8]) -> Result<(), Ground>
     ensures { says result ≡ first_of (Finds []) (size_grounds limit text.now) }
 {
     if limit < text.len() {
-        return Check::Refused(Ground::TextLong);
+        return Err(Ground::TextLong);
     }
-    Check::Fine
-}
-
-fn bad_pattern(found: Lines) -> Check
-    ensures { result ≡ bad_pattern found }
-{
-    match found {
-        Lines::Good => Check::Fine,
-        Lines::BadAt(offset) => Check::Refused(Ground::BadPattern(offset)),
-    }
-}
-
-fn bad_exception(list: usize, found: Lines) -> Check
-    ensures { result ≡ bad_exception list found }
-{
-    match found {
-        Lines::Good => Check::Fine,
-        Lines::BadAt(offset) => Check::Refused(Ground::BadException {
-            list: list,
-            offset: offset,
-        }),
-    }
+    Ok(())
 }
 
 // A pattern text: 8, then 7.
-pub fn judge_patterns(text: &[u8]) -> Check
+pub fn judge_patterns(text: &[u8]) -> Result<(), Ground>
     ensures { says result ≡ first_of (Finds []) (pattern_grounds text.now) }
 {
-    let size = judge_size(base::PATTERN_TEXT, text);
-    if let Check::Refused(g) = size {
-        return Check::Refused(g);
-    }
-    bad_pattern(judge_lines(Form::Patterns, text))
+    judge_size(base::PATTERN_TEXT, text)?;
+    judge_lines(Form::Patterns, text).map_err(Ground::BadPattern)
+}
+
+// The lines of an exception list, which the ground names.
+fn judge_exception_lines(list: usize, text: &[u8]) -> Result<(), Ground>
+    ensures { result ≡ bad_exception list (judge_lines Form.Exceptions text.now) }
+{
+    judge_lines(Form::Exceptions, text).map_err(|offset| Ground::BadException { list, offset })
 }
 
 // An exception text of at most limit bytes: 8, then 6 with the list's number.
-pub fn judge_exceptions(list: usize, limit: usize, text: &[u8]) -> Check
+pub fn judge_exceptions(list: usize, limit: usize, text: &[u8]) -> Result<(), Ground>
     ensures { says result ≡ first_of (Finds []) (exception_grounds list limit text.now) }
 {
-    let size = judge_size(limit, text);
-    if let Check::Refused(g) = size {
-        return Check::Refused(g);
-    }
-    bad_exception(list, judge_lines(Form::Exceptions, text))
+    judge_size(limit, text)?;
+    judge_exception_lines(list, text)
 }
 
 // Both exception texts: 8 for either, then 6 for the customer's, then 6 for the house's.
-pub fn judge_lists(customer: &[u8], house: &[u8]) -> Check
+pub fn judge_lists(customer: &[u8], house: &[u8]) -> Result<(), Ground>
     ensures { says result ≡ first_of (Finds []) (list_grounds customer.now house.now) }
 {
-    let size = judge_size(base::EXCEPTION_TEXT, customer);
-    if let Check::Refused(g) = size {
-        return Check::Refused(g);
-    }
-    let size2 = judge_size(base::EXCEPTION_TEXT, house);
-    if let Check::Refused(g) = size2 {
-        return Check::Refused(g);
-    }
-    let own = bad_exception(base::CUSTOMER_LIST, judge_lines(Form::Exceptions, customer));
-    if let Check::Refused(g) = own {
-        return Check::Refused(g);
-    }
-    bad_exception(base::HOUSE_LIST, judge_lines(Form::Exceptions, house))
+    judge_size(base::EXCEPTION_TEXT, customer)?;
+    judge_size(base::EXCEPTION_TEXT, house)?;
+    judge_exception_lines(base::CUSTOMER_LIST, customer)?;
+    judge_exception_lines(base::HOUSE_LIST, house)
 }

@@ -5,9 +5,8 @@ use mathlib.Core.Path.{◌≡◌, refl, sym, ◌∙◌, ap}
 use native.Mathlib.Omega.{arith}
 use lib.ListN.{get_or}
 use Rattle.base.specs.Limits.{word_limit}
-use Rattle.base.specs.Grounds.{Finds, first_of}
-use Rattle.base.specs.declared.Check.{Check}
-use Rattle.base.specs.declared.Check.TheVariants.{Fine, Refused}
+use Rattle.base.specs.Grounds.{Finds, first_of, Check}
+use Rattle.std.specs.Prelude.{Ok, Err}
 use Rattle.base.proofs.Grounds.{Ordered, ordered_first, said_found, said_refused_lem}
 use Rattle.words.proofs.Order.{word_ordered}
 use Rattle.lists.proofs.Order.{lists_ordered}
@@ -26,8 +25,8 @@ located_said word customer house = go (judge_lookup word customer house) (lookup
   where
     go : (judged : Check) → Ordered judged (lookup_grounds word customer house)
         → line_said (unless_refused judged (find_either word customer house)) ≡ values_of (first_of (Finds (line_said (find_either word customer house))) (lookup_grounds word customer house))
-    go Fine o = ap values_of (sym (said_found o (line_said (find_either word customer house))))
-    go (Refused g) o = ap values_of (sym (said_refused_lem o (line_said (find_either word customer house))))
+    go (Ok _) o = ap values_of (sym (said_found o (line_said (find_either word customer house))))
+    go (Err g) o = ap values_of (sym (said_refused_lem o (line_said (find_either word customer house))))
 
 -- no two places of a line say the same
 said_once : (l m : Located) → line_said l ≡ line_said m → l ≡ m

@@ -10,24 +10,20 @@ use lib.Dec.{eqb}
 use lib.ListN.{length, get_or, take, drop}
 use lib.Seq.{take-append-le, drop-append-add}
 use Rattle.base.specs.Limits.{word_limit, exception_text, customer_list, house_list}
-use Rattle.base.specs.Grounds.{first}
-use Rattle.base.specs.declared.Check.{Check}
-use Rattle.base.specs.declared.Check.TheVariants.{Fine, Refused}
+use Rattle.base.specs.Grounds.{first, Check}
+use Rattle.std.specs.Prelude.{Ok, Err, None}
 use Rattle.base.proofs.Lists.{clash, same_true, same_self}
 use Rattle.words.specs.Symbols.{line_feed, lower, symbols_of}
 use Rattle.words.specs.Words.{judge_word, word_symbols}
 use Rattle.words.proofs.Theorems.{same_judgement, same_symbols}
 use Rattle.lines.specs.Lines.{cut, glue}
-use Rattle.lists.specs.Lists.{judge_lines, judge_size, bad_exception, judge_lists}
+use Rattle.lists.specs.Lists.{judge_lines, judge_size, bad_exception, judge_lists, Lines}
 use Rattle.lists.specs.declared.Form.TheVariants.{Exceptions}
-use Rattle.lists.specs.declared.Lines.{Lines}
-use Rattle.lists.specs.declared.Lines.TheVariants.{Good, BadAt}
 use Rattle.lists.proofs.Theorems.{at_most_once}
 use Rattle.base.specs.Tests.{same_list}
-use Rattle.lookup.specs.Find.{find_line, find, find_either}
+use Rattle.lookup.specs.Find.{find_line, find, find_either, span}
 use Rattle.lookup.specs.Listed.{Listed, shown}
 use Rattle.lookup.specs.Lookup.{judge_lookup, locate, line_of}
-use Rattle.lookup.specs.declared.ListLine.TheVariants.{At, Nothing}
 use Rattle.lookup.specs.declared.Located.TheVariants.{Nowhere}
 
 -- the offset of a line among those that a text is cut into
@@ -38,7 +34,7 @@ offset_of (l ∷ ls) (suc i) = length l + offset_of ls i
 
 -- a line with these symbols, none before it having them, is found
 find_nth : (key : List ℕ) (at : ℕ) (ls : List (List ℕ)) (i : ℕ) → i < length ls → symbols_of (get_or ls i []) ≡ key
-    → ((j : ℕ) → j < i → symbols_of (get_or ls j []) ≡ key → ⊥) → find_line key at ls ≡ At (at + offset_of ls i) (at + offset_of ls i + (length (get_or ls i []) - 1))
+    → ((j : ℕ) → j < i → symbols_of (get_or ls j []) ≡ key → ⊥) → find_line key at ls ≡ span (at + offset_of ls i) (at + offset_of ls i + (length (get_or ls i []) - 1))
 unfolding find_line offset_of
 find_nth key at [] i h e n = absurd (omega arith)
 find_nth key at (l ∷ ls) zero h e n = rw (e, same_self key) (let z : at + 0 ≡ at = omega arith in rw z)
@@ -48,12 +44,12 @@ find_nth key at (l ∷ ls) (suc i) h e n = go (same_list key (symbols_of l)) ref
     here = n zero (omega arith)
 
     go : (z : Bool) → same_list key (symbols_of l) ≡ z
-        → find_line key (at + length l) ls ≡ At (at + length l + offset_of ls i) (at + length l + offset_of ls i + (length (get_or ls i []) - 1))
-        → cond z (At at (at + (length l - 1))) (find_line key (at + length l) ls) ≡ At (at + (length l + offset_of ls i)) (at + (length l + offset_of ls i) + (length (get_or ls i []) - 1))
+        → find_line key (at + length l) ls ≡ span (at + length l + offset_of ls i) (at + length l + offset_of ls i + (length (get_or ls i []) - 1))
+        → cond z (span at (at + (length l - 1))) (find_line key (at + length l) ls) ≡ span (at + (length l + offset_of ls i)) (at + (length l + offset_of ls i) + (length (get_or ls i []) - 1))
     go true p next = absurd (here (sym (same_true key (symbols_of l) p)))
     go false p next = let s : at + length l + offset_of ls i ≡ at + (length l + offset_of ls i) = omega arith in next ∙ rw s
 
-find_none : (key : List ℕ) (at : ℕ) (ls : List (List ℕ)) → ((i : ℕ) → i < length ls → symbols_of (get_or ls i []) ≡ key → ⊥) → find_line key at ls ≡ Nothing
+find_none : (key : List ℕ) (at : ℕ) (ls : List (List ℕ)) → ((i : ℕ) → i < length ls → symbols_of (get_or ls i []) ≡ key → ⊥) → find_line key at ls ≡ None
 unfolding find_line
 find_none key at [] n = refl
 find_none key at (l ∷ ls) n = go (same_list key (symbols_of l)) refl (find_none key (at + length l) ls (λ i h. n (suc i) (omega arith)))
@@ -61,7 +57,7 @@ find_none key at (l ∷ ls) n = go (same_list key (symbols_of l)) refl (find_non
     here : symbols_of l ≡ key → ⊥
     here = n zero (omega arith)
 
-    go : (z : Bool) → same_list key (symbols_of l) ≡ z → find_line key (at + length l) ls ≡ Nothing → cond z (At at (at + (length l - 1))) (find_line key (at + length l) ls) ≡ Nothing
+    go : (z : Bool) → same_list key (symbols_of l) ≡ z → find_line key (at + length l) ls ≡ None → cond z (span at (at + (length l - 1))) (find_line key (at + length l) ls) ≡ None
     go true p next = absurd (here (sym (same_true key (symbols_of l) p)))
     go false p next = next
 
@@ -91,14 +87,14 @@ read_back (l ∷ ls) zero n h k = take-append-le n l (join ls) k
 read_back (l ∷ ls) (suc i) n h k = rw (drop-append-add l (join ls) (offset_of ls i)) (read_back ls i n (omega arith) k)
 
 -- the search ends at a listed word's line, and nowhere for another
-pub find_listed : (word text : List ℕ) → judge_lines Exceptions text ≡ Good → (l : Listed word text)
-    → find word text ≡ At (0 + offset_of (cut text) l.at) (0 + offset_of (cut text) l.at + (length (get_or (cut text) l.at []) - 1))
+pub find_listed : (word text : List ℕ) → judge_lines Exceptions text ≡ Ok tt → (l : Listed word text)
+    → find word text ≡ span (0 + offset_of (cut text) l.at) (0 + offset_of (cut text) l.at + (length (get_or (cut text) l.at []) - 1))
 unfolding find
 find_listed word text good l =
     find_nth (word_symbols word) 0 (cut text) l.at l.within l.symbols
     (λ j k e. omega (arith, k, at_most_once Exceptions text good j l.at (omega (arith, l.within)) l.within (e ∙ sym l.symbols)))
 
-pub find_unlisted : (word text : List ℕ) → (Listed word text → ⊥) → find word text ≡ Nothing
+pub find_unlisted : (word text : List ℕ) → (Listed word text → ⊥) → find word text ≡ None
 unfolding find
 find_unlisted word text n = find_none (word_symbols word) 0 (cut text) (λ i h e. n (record { at = i; within = h; symbols = e }))
 
@@ -138,16 +134,16 @@ listed_or_not word text = go (line_or_none (word_symbols word) (cut text))
     go (inr none) = inr (λ l. none l.at l.within l.symbols)
 
 -- what it says of the parts that judgements in order are fine
-pub first_fine : (a b : Check) → first a b ≡ Fine → (a ≡ Fine) × (b ≡ Fine)
-first_fine Fine b e = (refl, e)
-first_fine (Refused g) b e = clash cc
+pub first_fine : (a b : Check) → first a b ≡ Ok tt → (a ≡ Ok tt) × (b ≡ Ok tt)
+first_fine (Ok _) b e = (refl, e)
+first_fine (Err g) b e = clash cc
 
-lines_fine : (list : ℕ) (l : Lines) → bad_exception list l ≡ Fine → l ≡ Good
-lines_fine list Good e = refl
-lines_fine list (BadAt o) e = clash cc
+lines_fine : (list : ℕ) (l : Lines) → bad_exception list l ≡ Ok tt → l ≡ Ok tt
+lines_fine list (Ok _) e = refl
+lines_fine list (Err o) e = clash cc
 
 -- lists that are judged fine have no bad line
-pub lists_good : (c h : List ℕ) → judge_lists c h ≡ Fine → (judge_lines Exceptions c ≡ Good) × (judge_lines Exceptions h ≡ Good)
+pub lists_good : (c h : List ℕ) → judge_lists c h ≡ Ok tt → (judge_lines Exceptions c ≡ Ok tt) × (judge_lines Exceptions h ≡ Ok tt)
 unfolding judge_lists
 lists_good c h e =
     let a = first_fine (judge_size exception_text c) _ e in
@@ -155,8 +151,8 @@ lists_good c h e =
     let d = first_fine (bad_exception customer_list (judge_lines Exceptions c)) _ b.1 in
     (lines_fine customer_list (judge_lines Exceptions c) d.0, lines_fine house_list (judge_lines Exceptions h) d.1)
 
-module _ (w c h : List ℕ) (fine : judge_lookup w c h ≡ Fine) where
-  good : (judge_lines Exceptions c ≡ Good) × (judge_lines Exceptions h ≡ Good)
+module _ (w c h : List ℕ) (fine : judge_lookup w c h ≡ Ok tt) where
+  good : (judge_lines Exceptions c ≡ Ok tt) × (judge_lines Exceptions h ≡ Ok tt)
   unfolding judge_lookup
   good = lists_good c h (first_fine (judge_word word_limit w) (judge_lists c h) fine).1
 

@@ -1,9 +1,7 @@
 -- The lookup as it is called: judged first, and handed back as a part of the list that held the line.
-use Rattle.std.specs.Prelude.{ℕ, ◌+◌, ◌-◌, List, [], ◌∷◌, ◌++◌, take, drop}
+use Rattle.std.specs.Prelude.{ℕ, ◌+◌, ◌-◌, List, [], ◌∷◌, ◌++◌, take, drop, Ok, Err}
 use Rattle.base.specs.Limits.{word_limit, customer_list, house_list}
-use Rattle.base.specs.Grounds.{Said, Finds, Refuses, Row, first_of, first}
-use Rattle.base.specs.declared.Check.{Check}
-use Rattle.base.specs.declared.Check.TheVariants.{Fine, Refused}
+use Rattle.base.specs.Grounds.{Said, Finds, Refuses, Row, first_of, first, Check}
 use Rattle.words.specs.Words.{word_grounds, judge_word}
 use Rattle.lists.specs.Lists.{list_grounds, judge_lists}
 use Rattle.lookup.specs.Find.{find_either}
@@ -35,8 +33,8 @@ judge_lookup word customer house = first (judge_word word_limit word) (judge_lis
 
 -- "An empty part means no line, or a refusal".
 abbrev pub unless_refused : Check → Located → Located
-unless_refused Fine found = found
-unless_refused (Refused g) found = Nowhere
+unless_refused (Ok _) found = found
+unless_refused (Err g) found = Nowhere
 
 unfoldable pub locate : List ℕ → List ℕ → List ℕ → Located
 locate word customer house = unless_refused (judge_lookup word customer house) (find_either word customer house)

@@ -10,16 +10,16 @@ ghost use Rattle.base.specs.Tests.{same_list};
 ghost use Rattle.lookup.specs.Find.{find, find_either};
 ghost use Rattle.lookup.specs.Lookup.{lookup_grounds, line_said, lookup_said, locate, line_of, place_of};
 
-use base::Check;
+use base::Ground;
 
-// Where a word's line stands in one list, without its line feed.
+// Where a line stands in a list, without its line feed.
 #[derive(Clone, Copy)]
-pub enum ListLine {
-    At { start: usize, end: usize },
-    Nothing,
+pub struct Span {
+    pub start: usize,
+    pub end: usize,
 }
 
-// Where a word's line stands in the two lists.
+// Where a word's line stands in the two lists. An Option of the first two would have the reader look twice for the third answer.
 #[derive(Clone, Copy)]
 pub enum Located {
     Customer { start: usize, end: usize },
@@ -170,52 +170,41 @@ pub fn is_line_of(word: &[u8], line: &[u8]) -> bool
 }
 
 // The word's line in a list.
-pub fn find_line(word: &[u8], text: &[u8]) -> ListLine
+pub fn find_line(word: &[u8], text: &[u8]) -> Option<Span>
     ensures { result ≡ find word.now text.now }
 {
     let mut at = 0;
     while at < text.len() {
         let end = lines::line_end(text, at);
         if is_line_of(word, &text[at..end]) {
-            return ListLine::At {
+            return Some(Span {
                 start: at,
                 end: end - 1,
-            };
+            });
         }
         at = end;
     }
-    ListLine::Nothing
+    None
 }
 
 // The word's line in lists that are known to be good: the customer's before the house's.
 pub fn find_either(word: &[u8], customer: &[u8], house: &[u8]) -> Located
     ensures { result ≡ find_either word.now customer.now house.now }
 {
-    let own = find_line(word, customer);
-    if let ListLine::At { start, end } = own {
-        return Located::Customer {
-            start: start,
-            end: end,
-        };
+    if let Some(Span { start, end }) = find_line(word, customer) {
+        return Located::Customer { start, end };
     }
-    let other = find_line(word, house);
-    if let ListLine::At { start, end } = other {
-        return Located::House {
-            start: start,
-            end: end,
-        };
+    if let Some(Span { start, end }) = find_line(word, house) {
+        return Located::House { start, end };
     }
     Located::Nowhere
 }
 
 // Grounds 2, 4, 3, 8 and 6.
-pub fn judge_lookup(word: &[u8], customer: &[u8], house: &[u8]) -> Check
+pub fn judge_lookup(word: &[u8], customer: &[u8], house: &[u8]) -> Result<(), Ground>
     ensures { says result ≡ first_of (Finds []) (lookup_grounds word.now customer.now house.now) }
 {
-    let own = words::judge_word(word, base::WORD_LIMIT);
-    if let Check::Refused(g) = own {
-        return Check::Refused(g);
-    }
+    words::judge_word(word, base::WORD_LIMIT)?;
     lists::judge_lists(customer, house)
 }
 
@@ -223,11 +212,10 @@ pub fn judge_lookup(word: &[u8], customer: &[u8], house: &[u8]) -> Check
 pub fn locate_line(word: &[u8], customer: &[u8], house: &[u8]) -> Located
     ensures { line_said result ≡ lookup_said word.now customer.now house.now }
 {
-    let judged = judge_lookup(word, customer, house);
-    if let Check::Refused(_) = judged {
-        return Located::Nowhere;
+    match judge_lookup(word, customer, house) {
+        Ok(()) => find_either(word, customer, house),
+        Err(_) => Located::Nowhere,
     }
-    find_either(word, customer, house)
 }
 
 // The lookup: the word's line without its line feed, as a part of the list that held it.

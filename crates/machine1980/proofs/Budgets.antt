@@ -8,7 +8,7 @@ use borrow.Author.Tests.{leb-false}
 use lib.Dec.{leb}
 use lib.ListN.{length}
 use Rattle.base.specs.Limits.{word_limit1980, short_word1980}
-use Rattle.base.specs.declared.Check.TheVariants.{Fine}
+use Rattle.std.specs.Prelude.{Ok, Err}
 use Rattle.words.specs.Words.{judge_letters}
 use Rattle.sheet1980.specs.Sheet.{u, mem, sheet_of, Sheet}
 use Rattle.suffix1980.specs.Suffixes.{infinity, sufbegin, Suffixed, phase2}
@@ -85,7 +85,7 @@ run_same budget more n sheet s h b =
     ∙ suffix_same budget more n (phase2 budget n sheet) h b ends
 
 -- a judged word
-module _ (word : List ℕ) (judged : judge_letters word_limit1980 word ≡ Fine) where
+module _ (word : List ℕ) (judged : judge_letters word_limit1980 word ≡ Ok tt) where
   -- Under any budget from 32 n + 8 on a word is answered, and executes at most so many instructions.
   pub within : (budget : ℕ) → most_executed (length word) ≤ budget → Within (most_executed (length word)) (machine budget word)
   unfolding machine

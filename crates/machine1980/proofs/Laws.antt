@@ -9,7 +9,7 @@ use lib.Dec.{leb, ltb}
 use lib.ListN.{length, take}
 use Rattle.base.specs.Limits.{room_size1980, short_word1980, word_limit1980}
 use Rattle.base.specs.Grounds.{Finds}
-use Rattle.base.specs.declared.Check.TheVariants.{Refused}
+use Rattle.std.specs.Prelude.{Ok, Err}
 use Rattle.base.specs.declared.Ground.TheVariants.{RoomShort}
 use Rattle.words.specs.Words.{judge_letters}
 use Rattle.rooms.specs.Rooms.{is_short, sheet_from, sheet, written, nonzero, bit}
@@ -37,7 +37,7 @@ use Rattle.machine1980.specs.declared.Marks.{Marks}
 use Rattle.machine1980.specs.declared.Marks.TheVariants as marks
 
 -- the room's ground, then the word's
-pub judge_short : (word : List ℕ) (size : ℕ) {short : Bool} → short ≡ is_short room_size1980 size → short ≡ true → Refused RoomShort ≡ judge1980 word size
+pub judge_short : (word : List ℕ) (size : ℕ) {short : Bool} → short ≡ is_short room_size1980 size → short ≡ true → Err RoomShort ≡ judge1980 word size
 unfolding judge1980
 judge_short word size p q = rw (← p, q)
 

@@ -5,9 +5,8 @@ use mathlib.Core.Path.{◌≡◌, sym, ◌∙◌, ap}
 use borrow.Author.Tests.{ltb-false}
 use lib.ListN.{length}
 use Rattle.base.specs.Limits.{word_limit1980, room_size1980}
-use Rattle.base.specs.Grounds.{Said, Finds, says, first_of, refuse_if}
-use Rattle.base.specs.declared.Check.{Check}
-use Rattle.base.specs.declared.Check.TheVariants.{Fine, Refused}
+use Rattle.base.specs.Grounds.{Said, Finds, says, first_of, refuse_if, Check}
+use Rattle.std.specs.Prelude.{Ok, Err}
 use Rattle.base.specs.declared.Ground.{Ground}
 use Rattle.base.specs.declared.Ground.TheVariants.{RoomShort}
 use Rattle.base.proofs.Grounds.{Ordered, ordered_first, ordered_if, said_found, said_refused_lem, both_fine, not_refused, judged_by}
@@ -25,12 +24,12 @@ unfolding judge1980 grounds1980
 ordered_1980 word size = ordered_first (ordered_if (is_short room_size1980 size) RoomShort) (letters_ordered word_limit1980 word)
 
 -- what a judgement that is fine says of the word and of the room
-pub judged_fine : (word : List ℕ) (size : ℕ) → judge1980 word size ≡ Fine → judge_letters word_limit1980 word ≡ Fine
+pub judged_fine : (word : List ℕ) (size : ℕ) → judge1980 word size ≡ Ok tt → judge_letters word_limit1980 word ≡ Ok tt
 unfolding judge1980
 judged_fine word size e = (both_fine (refuse_if (is_short room_size1980 size) RoomShort) (judge_letters word_limit1980 word) e).1
 
-pub sizes : (word : List ℕ) (size : ℕ) {judged : Check} → says judged ≡ first_of (Finds []) (grounds1980 word size) → judged ≡ Fine
-    → (judge_letters word_limit1980 word ≡ Fine) × (room_size1980 ≤ size)
+pub sizes : (word : List ℕ) (size : ℕ) {judged : Check} → says judged ≡ first_of (Finds []) (grounds1980 word size) → judged ≡ Ok tt
+    → (judge_letters word_limit1980 word ≡ Ok tt) × (room_size1980 ≤ size)
 unfolding judge1980
 sizes word size p q =
     let a = both_fine (refuse_if (is_short room_size1980 size) RoomShort) (judge_letters word_limit1980 word) (sym (judged_by (ordered_1980 word size) p) ∙ q) in
@@ -41,13 +40,13 @@ module _ (budget : ℕ) (word room : List ℕ) {judged : Check} (p : says judged
   judged_as : {c : Check} → judged ≡ c → Ordered c (grounds1980 word (length room))
   judged_as e = record { same = ap says (sym e) ∙ p }
 
-  pub refused : {g : Ground} → judged ≡ Refused g → Reprints budget word room (answers.Refused g) room
+  pub refused : {g : Ground} → judged ≡ Err g → Reprints budget word room (answers.Refused g) room
   unfolding said1980 answer1980 room1980
   refused e =
       let s = said_refused_lem (judged_as e) (values_of (length word) (machine budget word)) in
       record { answered = sym s; memory = ap (λ (x : Said). room_left x (machine budget word) (length word) room) (sym s) }
 
-  pub found : (r : Answer1980) (after : List ℕ) → judged ≡ Fine → Answered budget word room r after → Reprints budget word room r after
+  pub found : (r : Answer1980) (after : List ℕ) → judged ≡ Ok tt → Answered budget word room r after → Reprints budget word room r after
   unfolding answer1980 room1980
   found r after e a =
       let s = said_found (judged_as e) (values_of (length word) (machine budget word)) in

@@ -8,9 +8,8 @@ use borrow.Author.Tests.{leb-true}
 use lib.Dec.{leb}
 use lib.ListN.{length}
 use Rattle.base.specs.Limits.{word_limit1980, short_word1980, budget1980}
-use Rattle.base.specs.Grounds.{Said, Finds, Refuses, first_of}
-use Rattle.base.specs.declared.Check.{Check}
-use Rattle.base.specs.declared.Check.TheVariants.{Fine, Refused}
+use Rattle.base.specs.Grounds.{Said, Finds, Refuses, first_of, Check}
+use Rattle.std.specs.Prelude.{Ok, Err}
 use Rattle.base.proofs.Grounds.{Ordered, said_found, said_refused_lem, no_refusal}
 use Rattle.base.proofs.Lists.{both, clash}
 use Rattle.words.specs.Words.{judge_letters}
@@ -35,7 +34,7 @@ ran_not most (Marked finale marks executed) w e = clash cc
 executed_few : (most : ℕ) (o : Outcome) → Within most o → {finale executed : ℕ} {marks : List ℕ} → o ≡ Marked finale marks executed → executed ≤ most
 executed_few most o w {finale} {executed} {marks} e = subst (λ (x : Outcome). Within most x) e w
 
-module _ (word : List ℕ) (judged : judge_letters word_limit1980 word ≡ Fine) where
+module _ (word : List ℕ) (judged : judge_letters word_limit1980 word ≡ Ok tt) where
   -- "show that no word runs out": the budget of 20,000 is far above what the longest word may take, 2,024.
   pub no_word_runs_out : machine budget1980 word ≡ RanOut → ⊥
   no_word_runs_out e = ran_not (most_executed (length word)) (machine budget1980 word) (within word judged budget1980 (omega (arith, letters_fit word_limit1980 word judged))) e
@@ -93,14 +92,14 @@ never_ran_out word room after r p e = go (judge1980 word (length room)) refl
     said = ap said1980 (sym e) ∙ p.answered
 
     go : (c : Check) → judge1980 word (length room) ≡ c → ⊥
-    go Fine j =
+    go (Ok tt) j =
         let w = judged_fine word (length room) j in
         no_ran_out (length word) (most_executed (length word)) (machine budget1980 word) (within word w budget1980 (omega (arith, letters_fit word_limit1980 word w)))
         (sym (said ∙ said_found (ordered_as word (length room) j) (values_of (length word) (machine budget1980 word))))
-    go (Refused g) j = no_refusal (said ∙ said_refused_lem (ordered_as word (length room) j) (values_of (length word) (machine budget1980 word)))
+    go (Err g) j = no_refusal (said ∙ said_refused_lem (ordered_as word (length room) j) (values_of (length word) (machine budget1980 word)))
 
 module _ (a b : ℕ) (h : enough ≤ a) (k : enough ≤ b) (word : List ℕ) where
-  machines_same : judge_letters word_limit1980 word ≡ Fine → machine a word ≡ machine b word
+  machines_same : judge_letters word_limit1980 word ≡ Ok tt → machine a word ≡ machine b word
   machines_same w = let n = letters_fit word_limit1980 word w in same_answer word w a b (omega arith) (omega arith)
 
   pub answers_same : (size : ℕ) → answer1980 a word size ≡ answer1980 b word size
@@ -109,8 +108,8 @@ module _ (a b : ℕ) (h : enough ≤ a) (k : enough ≤ b) (word : List ℕ) whe
     where
       go : (c : Check) → judge1980 word size ≡ c
           → first_of (Finds (values_of (length word) (machine a word))) (grounds1980 word size) ≡ first_of (Finds (values_of (length word) (machine b word))) (grounds1980 word size)
-      go Fine j = ap (λ (o : Outcome). first_of (Finds (values_of (length word) o)) (grounds1980 word size)) (machines_same (judged_fine word size j))
-      go (Refused g) j =
+      go (Ok _) j = ap (λ (o : Outcome). first_of (Finds (values_of (length word) o)) (grounds1980 word size)) (machines_same (judged_fine word size j))
+      go (Err g) j =
           said_refused_lem (ordered_as word size j) (values_of (length word) (machine a word)) ∙ sym (said_refused_lem (ordered_as word size j) (values_of (length word) (machine b word)))
 
   pub rooms_same : (room : List ℕ) → room1980 a word room ≡ room1980 b word room
@@ -120,8 +119,8 @@ module _ (a b : ℕ) (h : enough ≤ a) (k : enough ≤ b) (word : List ℕ) whe
       go : (c : Check) → judge1980 word (length room) ≡ c
           → room_left (first_of (Finds (values_of (length word) (machine a word))) (grounds1980 word (length room))) (machine a word) (length word) room
           ≡ room_left (first_of (Finds (values_of (length word) (machine b word))) (grounds1980 word (length room))) (machine b word) (length word) room
-      go Fine j =
+      go (Ok tt) j =
           ap (λ (o : Outcome). room_left (first_of (Finds (values_of (length word) o)) (grounds1980 word (length room))) o (length word) room) (machines_same (judged_fine word (length room) j))
-      go (Refused g) j =
+      go (Err g) j =
           ap (λ (s : Said). room_left s (machine a word) (length word) room) (said_refused_lem (ordered_as word (length room) j) (values_of (length word) (machine a word)))
           ∙ ap (λ (s : Said). room_left s (machine b word) (length word) room) (sym (said_refused_lem (ordered_as word (length room) j) (values_of (length word) (machine b word))))

@@ -7,7 +7,7 @@ use native.Mathlib.Omega.{arith}
 use borrow.Author.Tests.{ltb-true, ltb-false, le-ltb}
 use lib.Dec.{leb, ltb}
 use lib.ListN.{length, get_or, length-append, length-map}
-use Rattle.base.specs.declared.Check.TheVariants.{Fine}
+use Rattle.std.specs.Prelude.{Ok, Err}
 use Rattle.words.specs.Symbols.{small, capital, letter}
 use Rattle.words.specs.Words.{judge_letters}
 use Rattle.words.proofs.Laws.{range_low, range_high, letters_byte}
@@ -64,7 +64,7 @@ module _ (word : List ℕ) where
       mem_of word k (omega arith) ∙ ap (λ i. get_or (0 ∷ five word) i 0) e ∙ five_past word (k - u - 1) (omega arith)
 
 -- a judged word: each place of its sheet
-module _ (limit : ℕ) (word : List ℕ) (judged : judge_letters limit word ≡ Fine) where
+module _ (limit : ℕ) (word : List ℕ) (judged : judge_letters limit word ≡ Ok tt) where
   pub all_letters : (k : ℕ) → u < k → k ≤ u + length word → 0 < mem (sheet_of word) k
   all_letters k h l =
       let c = letter_code (get_or word (k - u - 1) 0) (letters_byte limit word judged (k - u - 1) (omega arith)) in

@@ -1,8 +1,7 @@
 -- The call: its grounds in order, its answer, and what it leaves in the room.
 use Rattle.std.specs.Prelude.{ℕ, List, [], ◌∷◌, ◌≡◌, length}
 use Rattle.base.specs.Limits.{word_limit1980, room_size1980}
-use Rattle.base.specs.Grounds.{told, Said, Finds, Refuses, Row, on, first_of, first, refuse_if}
-use Rattle.base.specs.declared.Check.{Check}
+use Rattle.base.specs.Grounds.{told, Said, Finds, Refuses, Row, on, first_of, first, refuse_if, Check}
 use Rattle.base.specs.declared.Ground.TheVariants.{RoomShort}
 use Rattle.words.specs.Words.{letter_grounds, judge_letters}
 use Rattle.rooms.specs.Rooms.{is_short, written, nonzero}

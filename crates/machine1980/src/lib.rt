@@ -4,7 +4,6 @@
 ghost use Rattle.std.specs.Prelude.{[], ◌≡◌, ◌+◌, ◌<◌, ◌≤◌, length};
 ghost use Rattle.base.specs.Limits.{word_limit1980, room_size1980, short_word1980, budget1980};
 ghost use Rattle.base.specs.Grounds.{Finds, says, first_of};
-ghost use Rattle.base.specs.declared.Check.{Check};
 ghost use Rattle.words.specs.Words.{judge_letters};
 ghost use Rattle.rooms.specs.Rooms.{written, bit};
 ghost use Rattle.sheet1980.specs.Sheet.{Sheet};
@@ -14,7 +13,7 @@ ghost use Rattle.machine1980.specs.Breaks.{shows, break_sheet};
 ghost use Rattle.machine1980.specs.Calls.{grounds1980, Reprints};
 ghost use Rattle.machine1980.specs.Post.{joined, Answered};
 
-use base::{Check, Ground};
+use base::Ground;
 
 // What the call answers: how many breaks it put into the room and how many instructions were executed; that one more instruction is
 // needed than there is budget for; or why it refuses.
@@ -46,11 +45,11 @@ const LAST_LETTERS: usize = 3;
 const SHEET_SIZE: usize = base::WORD_LIMIT_1980 + 2;
 
 // The grounds of the call: 5, 2, 4, 3.
-pub fn judge_1980(word: &[u8], size: usize) -> Check
+pub fn judge_1980(word: &[u8], size: usize) -> Result<(), Ground>
     ensures { says result ≡ first_of (Finds []) (grounds1980 word.now size) }
 {
     if rooms::is_short(size, base::ROOM_SIZE_1980) {
-        return Check::Refused(Ground::RoomShort);
+        return Err(Ground::RoomShort);
     }
     words::judge_letters(word, base::WORD_LIMIT_1980)
 }
@@ -121,8 +120,8 @@ fn put_breaks(n: usize, finale: usize, sheet: &[u8], room: &mut [u8])
 }
 
 // What is found of a judged word of more than four letters in a judged room, on a sheet of its size. The room is written at the end.
-fn reprint_on(budget: usize, word: &[u8], sheet: &mut [u8], room: &mut [u8]) -> Answer1980
-    requires { (judge_letters word_limit1980 word.now ≡ Check.Fine) × (short_word1980 < length word.now) × (length sheet.old ≡ length word.now + 2) × (room_size1980 ≤ length room.old) }
+fn reprint_on(budget: usize, word: &[u8], sheet: &mut [u8], room: &mut [u8]) -> Result<Reprint, Ground>
+    requires { (judge_letters word_limit1980 word.now ≡ Ok tt) × (short_word1980 < length word.now) × (length sheet.old ≡ length word.now + 2) × (room_size1980 ≤ length room.old) }
     ensures { Answered budget word.now room.old result room.new }
 {
     let n = word.len();
@@ -138,8 +137,8 @@ fn reprint_on(budget: usize, word: &[u8], sheet: &mut [u8], room: &mut [u8]) -> 
 }
 
 // What is found of a judged word in a judged room.
-fn find_breaks(budget: usize, word: &[u8], room: &mut [u8]) -> Answer1980
-    requires { (judge_letters word_limit1980 word.now ≡ Check.Fine) × (room_size1980 ≤ length room.old) }
+fn find_breaks(budget: usize, word: &[u8], room: &mut [u8]) -> Result<Reprint, Ground>
+    requires { (judge_letters word_limit1980 word.now ≡ Ok tt) × (room_size1980 ≤ length room.old) }
     ensures { Answered budget word.now room.old result room.new }
 {
     let n = word.len();
@@ -155,18 +154,15 @@ fn find_breaks(budget: usize, word: &[u8], room: &mut [u8]) -> Answer1980
 }
 
 // The call under a budget.
-pub fn hyphenate_within(budget: usize, word: &[u8], room: &mut [u8]) -> Answer1980
+pub fn hyphenate_within(budget: usize, word: &[u8], room: &mut [u8]) -> Result<Reprint, Ground>
     ensures { Reprints budget word.now room.old result room.new }
 {
-    let judged = judge_1980(word, room.len());
-    if let Check::Refused(g) = judged {
-        return Answer1980::Refused(g);
-    }
+    judge_1980(word, room.len())?;
     find_breaks(budget, word, room)
 }
 
 // The call.
-pub fn hyphenate_1980(word: &[u8], room: &mut [u8]) -> Answer1980
+pub fn hyphenate_1980(word: &[u8], room: &mut [u8]) -> Result<Reprint, Ground>
     ensures { Reprints budget1980 word.now room.old result room.new }
 {
     hyphenate_within(base::BUDGET_1980, word, room)

@@ -7,9 +7,9 @@ use native.Mathlib.Omega.{arith}
 use borrow.Author.Tests.{leb-true, eqb-true, eq-eqb}
 use lib.Dec.{leb, ltb, eqb}
 use Rattle.base.specs.Limits.{level_limit}
-use Rattle.table.specs.Table.{entry_at}
 use Rattle.table.specs.declared.Entry.{Entry}
-use Rattle.table.specs.declared.Entry.TheVariants.{Has, Stop}
+use Rattle.table.specs.Table.{entry_at, has}
+use Rattle.std.specs.Prelude.{Some, None, Option}
 use Rattle.walk.specs.Chain.{Setting, setting, chain_step, chain_from, chain}
 use Rattle.walk.specs.Raise.{highest_set}
 
@@ -35,13 +35,13 @@ module _ (entries : List ℕ) (m e f : ℕ) (R : List Setting → List Setting �
       go true false z p = none
       go false y z p = none
 
-  step_pair : (k : ℕ) (g h : ℕ → List Setting) → ((next : ℕ) → R (g next) (h next)) → (entry : Entry) → R (chain_step g m e k entry) (chain_step h m f k entry)
+  step_pair : (k : ℕ) (g h : ℕ → List Setting) → ((next : ℕ) → R (g next) (h next)) → (entry : Option Entry) → R (chain_step g m e k entry) (chain_step h m f k entry)
   unfolding chain_step
-  step_pair k g h r Stop = none
-  step_pair k g h r (Has distance level next) = join _ _ _ _ (setting_pair distance level) (go (ltb next k))
+  step_pair k g h r None = none
+  step_pair k g h r (Some entry) = join _ _ _ _ (setting_pair entry.distance entry.level) (go (ltb entry.next k))
     where
-      go : (z : Bool) → R (cond z (g next) []) (cond z (h next) [])
-      go true = r next
+      go : (z : Bool) → R (cond z (g entry.next) []) (cond z (h entry.next) [])
+      go true = r entry.next
       go false = none
 
   from_pair : (bound k : ℕ) → R (chain_from entries m e bound k) (chain_from entries m f bound k)

@@ -8,9 +8,8 @@ use native.Mathlib.Decide.{dec_lt}
 use native.Mathlib.Omega.{arith}
 use lib.ListN.{length}
 use Rattle.base.specs.Limits.{pattern_limit}
-use Rattle.table.specs.Table.{look}
-use Rattle.table.specs.declared.Look.{Look}
-use Rattle.table.specs.declared.Look.TheVariants.{Hit, Miss}
+use Rattle.table.specs.Table.{look, Look, hit}
+use Rattle.std.specs.Prelude.{Some, None}
 use Rattle.liang.specs.Patterns.{Pattern}
 use Rattle.walk.specs.Walk.{look_step, looks_from, matches_from}
 use Rattle.walk.proofs.Count.{walk_few, looks_matches}
@@ -31,8 +30,8 @@ pub record Looked (m n : ℕ) : Type 0 where
 -- a walk looks at its first cell in any case
 step_some : (go : ℕ → ℕ) (found : Look) → 1 ≤ look_step go found
 unfolding look_step
-step_some go Miss = omega arith
-step_some go (Hit link output) = omega arith
+step_some go None = omega arith
+step_some go (Some found) = omega arith
 
 looks_some : (cells : List ℕ) (root : ℕ) (row : List ℕ) → 0 < length row → 1 ≤ looks_from cells pattern_limit root row
 unfolding looks_from

@@ -12,11 +12,9 @@ use lib.ListN.{length, get_or}
 use Rattle.base.specs.Limits.{symbol_limit, pattern_limit, level_limit}
 use Rattle.base.proofs.Lists.{clash, never, both, and_cond}
 use Rattle.liang.specs.Patterns.{Pattern}
-use Rattle.table.specs.Table.{cell_kind, cell_size, entry_size, number_at, look, entry_at}
-use Rattle.table.specs.declared.Look.{Look}
-use Rattle.table.specs.declared.Look.TheVariants.{Hit, Miss}
 use Rattle.table.specs.declared.Entry.{Entry}
-use Rattle.table.specs.declared.Entry.TheVariants.{Has, Stop}
+use Rattle.table.specs.Table.{cell_kind, cell_size, entry_size, number_at, look, entry_at, Look, hit, has}
+use Rattle.std.specs.Prelude.{Some, None, Option}
 use Rattle.walk.specs.Chain.{Setting, setting, chain_step, chain_from, chain}
 use Rattle.walk.specs.Walk.{set_step, set_from, look_step, looks_from, settings, looks}
 use Rattle.walk.specs.Raise.{highest_set}
@@ -63,7 +61,7 @@ entry_same entries other l (suc k) h =
     )
 
 -- a string that is followed to its end has a symbol
-along_some : (cells : List ℕ) (base : ℕ) (u : List ℕ) {link output : ℕ} → along cells base u ≡ Hit link output → 0 < length u
+along_some : (cells : List ℕ) (base : ℕ) (u : List ℕ) {link output : ℕ} → along cells base u ≡ hit link output → 0 < length u
 unfolding along
 along_some cells base [] e = clash cc
 along_some cells base (s ∷ u) e = omega arith
@@ -76,20 +74,20 @@ unfolding all_symbols
 first_symbol s row a = (both (leb 1 s && leb s symbol_limit) (all_symbols row) a).0
 
 -- a cell that matches holds the symbol
-look_symbol : (cells : List ℕ) (n s : ℕ) {link output : ℕ} → look cells n s ≡ Hit link output → get_or cells (cell_size * n + 1) 0 ≡ s
+look_symbol : (cells : List ℕ) (n s : ℕ) {link output : ℕ} → look cells n s ≡ hit link output → get_or cells (cell_size * n + 1) 0 ≡ s
 unfolding look
 look_symbol cells n s {link} {output} e =
     go (leb (cell_size * n + cell_size) (length cells)) (eqb (get_or cells (cell_size * n) 0) cell_kind) (eqb (get_or cells (cell_size * n + 1) 0) s) refl e
   where
     go : (x y z : Bool) → eqb (get_or cells (cell_size * n + 1) 0) s ≡ z
-        → cond (x && (y && z)) (Hit (number_at cells (cell_size * n + 2)) (number_at cells (cell_size * n + 4))) Miss ≡ Hit link output → get_or cells (cell_size * n + 1) 0 ≡ s
+        → cond (x && (y && z)) (hit (number_at cells (cell_size * n + 2)) (number_at cells (cell_size * n + 4))) None ≡ hit link output → get_or cells (cell_size * n + 1) 0 ≡ s
     go true true true p q = eqb-true (get_or cells (cell_size * n + 1) 0) s p
     go true true false p q = clash cc
     go true false z p q = clash cc
     go false y z p q = clash cc
 
 -- so does the cell that a string of symbols ends in
-end_symbol : (cells : List ℕ) (base : ℕ) (u : List ℕ) {link output : ℕ} → all_symbols u ≡ true → along cells base u ≡ Hit link output
+end_symbol : (cells : List ℕ) (base : ℕ) (u : List ℕ) {link output : ℕ} → all_symbols u ≡ true → along cells base u ≡ hit link output
     → Symbol (get_or cells (cell_size * end_cell cells base u + 1) 0)
 unfolding along end_cell
 end_symbol cells base [] a m = clash cc
@@ -97,16 +95,16 @@ end_symbol cells base (s ∷ []) a m = rw (look_symbol cells (base + s) s m) (fi
 end_symbol cells base (s ∷ (x ∷ u)) {link} {output} a m = go (look cells (base + s) s) refl m (λ l. end_symbol cells l (x ∷ u) (alphabet_rest s (x ∷ u) a))
   where
     Ends : ℕ → Type 0
-    Ends l = along cells l (x ∷ u) ≡ Hit link output → Symbol (get_or cells (cell_size * end_cell cells l (x ∷ u) + 1) 0)
+    Ends l = along cells l (x ∷ u) ≡ hit link output → Symbol (get_or cells (cell_size * end_cell cells l (x ∷ u) + 1) 0)
 
-    pick : (l : ℕ) (z : Bool) → cond z Miss (along cells l (x ∷ u)) ≡ Hit link output → Ends l → Symbol (get_or cells (cell_size * end_cell cells l (x ∷ u) + 1) 0)
+    pick : (l : ℕ) (z : Bool) → cond z None (along cells l (x ∷ u)) ≡ hit link output → Ends l → Symbol (get_or cells (cell_size * end_cell cells l (x ∷ u) + 1) 0)
     pick l true q next = clash cc
     pick l false q next = next q
 
-    go : (found : Look) → look cells (base + s) s ≡ found → onward (λ l. along cells l (x ∷ u)) found ≡ Hit link output → ((l : ℕ) → Ends l)
+    go : (found : Look) → look cells (base + s) s ≡ found → onward (λ l. along cells l (x ∷ u)) found ≡ hit link output → ((l : ℕ) → Ends l)
         → Symbol (get_or cells (cell_size * end_cell cells (link_of (look cells (base + s) s)) (x ∷ u) + 1) 0)
-    go Miss e q next = unfold onward in clash cc
-    go (Hit l o) e q next = unfold onward in rw e (pick l (eqb l 0) q (next l))
+    go None e q next = unfold onward in clash cc
+    go (Some found) e q next = unfold onward in rw e (pick found.link (eqb found.link 0) q (next found.link))
 
 -- A cell that holds no symbol, as a free one does, is reached by no path, whatever its link and output.
 pub blank_unreached : (cells : List ℕ) (root n : ℕ) → (leb 1 (get_or cells (cell_size * n + 1) 0) && leb (get_or cells (cell_size * n + 1) 0) symbol_limit) ≡ false → CellReached cells root n → ⊥
@@ -117,10 +115,10 @@ blank_unreached cells root n e r =
 -- what holds of the cells and entries that strings of at most `left` symbols reach from a base on
 module _ (cells entries : List ℕ) (OfCell OfEntry : ℕ → Type 0) where
   abbrev Held : ℕ → ℕ → Type 0
-  Held base left = (u : List ℕ) (link output : ℕ) → length u ≤ left → all_symbols u ≡ true → along cells base u ≡ Hit link output
+  Held base left = (u : List ℕ) (link output : ℕ) → length u ≤ left → all_symbols u ≡ true → along cells base u ≡ hit link output
       → OfCell (end_cell cells base u) × ((k : ℕ) → OnChain entries output k → OfEntry k)
 
-  module _ (base left s link output : ℕ) (h : Held base (suc left)) (a : Symbol s) (e : look cells (base + s) s ≡ Hit link output) where
+  module _ (base left s link output : ℕ) (h : Held base (suc left)) (a : Symbol s) (e : look cells (base + s) s ≡ hit link output) where
     -- holds of the first cell and of its output's chain
     held_here : OfCell (base + s) × ((k : ℕ) → OnChain entries output k → OfEntry k)
     unfolding along end_cell all_symbols
@@ -153,11 +151,11 @@ module _ (cells other entries others : List ℕ) (size_cells : length cells ≡ 
   looks_alike base left s h a = go (look cells (base + s) s) refl (look other (base + s) s) refl
     where
       go : (x : Look) → look cells (base + s) s ≡ x → (y : Look) → look other (base + s) s ≡ y → look cells (base + s) s ≡ look other (base + s) s
-      go (Hit link output) e y f = look_same cells other size_cells (base + s) s (held_here cells entries SameCell SameEntry base left s link output h.0 a e).0
-      go Miss e (Hit link output) f = look_same cells other size_cells (base + s) s (held_here other others SameCell SameEntry base left s link output h.1 a f).0
-      go Miss e Miss f = e ∙ sym f
+      go (Some found) e y f = look_same cells other size_cells (base + s) s (held_here cells entries SameCell SameEntry base left s found.link found.output h.0 a e).0
+      go None e (Some found) f = look_same cells other size_cells (base + s) s (held_here other others SameCell SameEntry base left s found.link found.output h.1 a f).0
+      go None e None f = e ∙ sym f
 
-  module _ (base left s : ℕ) (h : Both base (suc left)) (a : Symbol s) {link output : ℕ} (e : look cells (base + s) s ≡ Hit link output) where
+  module _ (base left s : ℕ) (h : Both base (suc left)) (a : Symbol s) {link output : ℕ} (e : look cells (base + s) s ≡ hit link output) where
     both_here : Chains output
     both_here = (
       (held_here cells entries SameCell SameEntry base left s link output h.0 a e).1,
@@ -191,20 +189,20 @@ module _ (cells other entries others : List ℕ) (size_cells : length cells ≡ 
 
       go : (found : Look) → look cells (base + s) s ≡ found → ((l : ℕ) → Both l left → along cells l (x ∷ u) ≡ along other l (x ∷ u))
           → onward (λ l. along cells l (x ∷ u)) found ≡ onward (λ l. along other l (x ∷ u)) found
-      go Miss e next = unfold onward in refl
-      go (Hit link output) e next = unfold onward in both_on base left s h symbol e Miss _ _ next
+      go None e next = unfold onward in refl
+      go (Some found) e next = unfold onward in both_on base left s h symbol e None _ _ next
 
   -- an entry of a chain is read alike
   entries_alike : (k : ℕ) → Chains k → entry_at entries k ≡ entry_at others k
   entries_alike k c = go (entry_at entries k) refl (entry_at others k) refl
     where
-      go : (x : Entry) → entry_at entries k ≡ x → (y : Entry) → entry_at others k ≡ y → entry_at entries k ≡ entry_at others k
-      go (Has distance level next) e y f = entry_same entries others size_entries k (c.0 k (here e))
-      go Stop e (Has distance level next) f = entry_same entries others size_entries k (c.1 k (here f))
-      go Stop e Stop f = e ∙ sym f
+      go : (x : Option Entry) → entry_at entries k ≡ x → (y : Option Entry) → entry_at others k ≡ y → entry_at entries k ≡ entry_at others k
+      go (Some entry) e y f = entry_same entries others size_entries k (c.0 k (here e))
+      go None e (Some entry) f = entry_same entries others size_entries k (c.1 k (here f))
+      go None e None f = e ∙ sym f
 
   -- how a chain goes on behind an entry: not at all where its next is not lower, else alike
-  chains_on : {A : Type 0} (none : A) (f g : ℕ → A) → ((n : ℕ) → Chains n → f n ≡ g n) → (k : ℕ) → Chains k → {distance level next : ℕ} → entry_at entries k ≡ Has distance level next
+  chains_on : {A : Type 0} (none : A) (f g : ℕ → A) → ((n : ℕ) → Chains n → f n ≡ g n) → (k : ℕ) → Chains k → {distance level next : ℕ} → entry_at entries k ≡ has distance level next
       → cond (ltb next k) (f next) none ≡ cond (ltb next k) (g next) none
   chains_on {A} none f g rest k c {distance} {level} {next} e = go (ltb next k) refl
     where
@@ -220,11 +218,11 @@ module _ (cells other entries others : List ℕ) (size_cells : length cells ≡ 
   chain_from_lem m end zero k c = refl
   chain_from_lem m end (suc bound) k c = rw (← (entries_alike k c)) (go (entry_at entries k) refl (λ n d. chain_from_lem m end bound n d))
     where
-      go : (x : Entry) → entry_at entries k ≡ x → ((n : ℕ) → Chains n → chain_from entries m end bound n ≡ chain_from others m end bound n)
+      go : (x : Option Entry) → entry_at entries k ≡ x → ((n : ℕ) → Chains n → chain_from entries m end bound n ≡ chain_from others m end bound n)
           → chain_step (λ n. chain_from entries m end bound n) m end k x ≡ chain_step (λ n. chain_from others m end bound n) m end k x
-      go Stop e rest = unfold chain_step in refl
-      go (Has distance level next) e rest =
-          unfold chain_step in ap (λ (l : List Setting). setting m end distance level ++ l) (chains_on [] _ _ rest k c e)
+      go None e rest = unfold chain_step in refl
+      go (Some entry) e rest =
+          unfold chain_step in ap (λ (l : List Setting). setting m end entry.distance entry.level ++ l) (chains_on [] _ _ rest k c e)
 
   chain_alike : (m end k : ℕ) → Chains k → chain entries m end k ≡ chain others m end k
   unfolding chain
@@ -237,12 +235,12 @@ module _ (cells other entries others : List ℕ) (size_cells : length cells ≡ 
   sound_from_lem m (suc bound) k c =
       rw (← (entries_alike k c)) (ap (λ (z : Bool). cond (eqb k 0) true z) (go (entry_at entries k) refl (λ n d. sound_from_lem m bound n d)))
     where
-      go : (x : Entry) → entry_at entries k ≡ x → ((n : ℕ) → Chains n → sound_from entries m bound n ≡ sound_from others m bound n)
+      go : (x : Option Entry) → entry_at entries k ≡ x → ((n : ℕ) → Chains n → sound_from entries m bound n ≡ sound_from others m bound n)
           → sound_step (λ n. sound_from entries m bound n) m k x ≡ sound_step (λ n. sound_from others m bound n) m k x
-      go Stop e rest = unfold sound_step in refl
-      go (Has distance level next) e rest =
-          unfold sound_step in ap (λ (z : Bool). (leb 1 level && leb level level_limit) && (leb distance m && z))
-          (and_cond (ltb next k) (sound_from entries m bound next) ∙ chains_on false _ _ rest k c e ∙ sym (and_cond (ltb next k) (sound_from others m bound next)))
+      go None e rest = unfold sound_step in refl
+      go (Some entry) e rest =
+          unfold sound_step in ap (λ (z : Bool). (leb 1 entry.level && leb entry.level level_limit) && (leb entry.distance m && z))
+          (and_cond (ltb entry.next k) (sound_from entries m bound entry.next) ∙ chains_on false _ _ rest k c e ∙ sym (and_cond (ltb entry.next k) (sound_from others m bound entry.next)))
 
   sound_alike : (m k : ℕ) → Chains k → sound entries m k ≡ sound others m k
   unfolding sound
@@ -263,9 +261,9 @@ module _ (cells other entries others : List ℕ) (size_cells : length cells ≡ 
           → ((l : ℕ) → Both l left → set_from cells entries left l (m + 1) (end + 1) row ≡ set_from other others left l (m + 1) (end + 1) row)
           → set_step (λ l. set_from cells entries left l (m + 1) (end + 1) row) entries (m + 1) (end + 1) found
           ≡ set_step (λ l. set_from other others left l (m + 1) (end + 1) row) others (m + 1) (end + 1) found
-      go Miss e next = unfold set_step in refl
-      go (Hit link output) e next =
-          unfold set_step in rw (chain_alike (m + 1) (end + 1) output (both_here base left s h symbol e), both_on base left s h symbol e [] _ _ next)
+      go None e next = unfold set_step in refl
+      go (Some found) e next =
+          unfold set_step in rw (chain_alike (m + 1) (end + 1) found.output (both_here base left s h symbol e), both_on base left s h symbol e [] _ _ next)
 
   -- and looks at as many cells
   count_alike : (left base : ℕ) (row : List ℕ) → Both base left → all_symbols row ≡ true → looks_from cells left base row ≡ looks_from other left base row
@@ -280,8 +278,8 @@ module _ (cells other entries others : List ℕ) (size_cells : length cells ≡ 
 
       go : (found : Look) → look cells (base + s) s ≡ found → ((l : ℕ) → Both l left → looks_from cells left l row ≡ looks_from other left l row)
           → look_step (λ l. looks_from cells left l row) found ≡ look_step (λ l. looks_from other left l row) found
-      go Miss e next = unfold look_step in refl
-      go (Hit link output) e next = unfold look_step in ap (λ (n : ℕ). 1 + n) (both_on base left s h symbol e 0 _ _ next)
+      go None e next = unfold look_step in refl
+      go (Some found) e next = unfold look_step in ap (λ (n : ℕ). 1 + n) (both_on base left s h symbol e 0 _ _ next)
 
   -- what the paths of one of them or of the other reach has the same bytes in both
   module _ (root : ℕ) (of_cells : (n : ℕ) → CellReached cells root n ⊎ CellReached other root n → SameCell n)
@@ -340,11 +338,11 @@ module _ (cells other entries others : List ℕ) (size_cells : length cells ≡ 
           silent = λ u p none. r.silent u (path_from u p) none;
         }
       where
-        exact : (i : ℕ) → i < length patterns → (link output : ℕ) → along other root (nth patterns i).symbols ≡ Hit link output → Exact others (nth patterns i) output
+        exact : (i : ℕ) → i < length patterns → (link output : ℕ) → along other root (nth patterns i).symbols ≡ hit link output → Exact others (nth patterns i) output
         exact i l link output m =
             let u = (nth patterns i).symbols in
             let p = r.reached u (record { some = along_some other root u m; at = i; within = l; stands = begins_self u }) in
-            let e : along cells root u ≡ Hit link output = along_alike u root pattern_limit all_reached p.short p.alphabet ∙ m in
+            let e : along cells root u ≡ hit link output = along_alike u root pattern_limit all_reached p.short p.alphabet ∙ m in
             let x = r.exact i l link output e in
             let c : Chains output = ((all_reached.0 u link output p.short p.alphabet e).1, (all_reached.1 u link output p.short p.alphabet m).1) in
             record {

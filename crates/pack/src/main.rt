@@ -85,11 +85,11 @@ fn put_table(rt: &HostRuntime, table: &[u8]) -> bool {
 fn run(rt: &HostRuntime, patterns: &[u8]) {
     let mut room = [0u8; ROOM];
     let packing = packer::pack(patterns, &mut room);
-    if let Packing::Refused(g) = packing {
+    if let Err(g) = packing {
         console::print_refusal(rt, b"pack", refusals(rt), g);
         return;
     }
-    if let Packing::Done(size) = packing {
+    if let Ok(size) = packing {
         if size <= room.len() {
             if !put_table(rt, &room[0..size]) {
                 console::print_undone(rt, b"pack", refusals(rt));

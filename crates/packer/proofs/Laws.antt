@@ -11,7 +11,7 @@ use lib.ListN.{length, get_or, set, take, drop, replicate, length-append, length
 use lib.Seq.{length-take-le, get_or-drop, drop-drop, drop_at, take-add, take-take, take-append-le, take-length, paste, take-paste, drop-paste}
 use Rattle.base.specs.Limits.{pattern_limit, cell_limit, entry_limit, pack_room}
 use Rattle.base.specs.declared.Ground.{Ground}
-use Rattle.base.specs.declared.Check.TheVariants.{Fine, Refused}
+use Rattle.std.specs.Prelude.{Ok, Err}
 use Rattle.base.specs.declared.Ground.TheVariants.{PackRoomShort, NoFit}
 use Rattle.rooms.specs.Rooms.{filled}
 use Rattle.rooms.proofs.Laws.{filled_same, cleared_take, cleared_drop}
@@ -76,7 +76,7 @@ output_put root cells symbols m output p q e = e ∙ rw (p, q, take-length symbo
 pub AllShaped : List Pattern → Type 0
 AllShaped patterns = (i : ℕ) → i < length patterns → Shaped (nth patterns i)
 
-pub shaped_start : (text : List ℕ) → judge_patterns text ≡ Fine → AllShaped (map pattern_of (cut (drop 0 text)))
+pub shaped_start : (text : List ℕ) → judge_patterns text ≡ Ok tt → AllShaped (map pattern_of (cut (drop 0 text)))
 unfolding AllShaped patterns_of
 shaped_start text e = good_patterns text e
 
@@ -258,12 +258,12 @@ module _ (room cells : List ℕ) (p : pack_room ≤ length room) (q : length cel
         }
 
 -- the whole call
-after_same : (fit : Fit) (a b : List ℕ) → drop pack_room a ≡ drop pack_room b → packed_after Fine fit a ≡ packed_after Fine fit b
+after_same : (fit : Fit) (a b : List ℕ) → drop pack_room a ≡ drop pack_room b → packed_after (Ok tt) fit a ≡ packed_after (Ok tt) fit b
 after_same NoRoom a b e = filled_same pack_room [] a b e
 after_same (Packed t) a b e = filled_same pack_room t a b e
 
 module _ (text room : List ℕ) where
-  judged_short : length room < pack_room → judge_pack text (length room) ≡ Refused PackRoomShort
+  judged_short : length room < pack_room → judge_pack text (length room) ≡ Err PackRoomShort
   unfolding judge_pack
   judged_short h = rw (lt-ltb (length room) pack_room h)
 
@@ -275,14 +275,14 @@ module _ (text room : List ℕ) where
   pack_short h = record { answered = rw (judged_short h) refl; memory = rw (judged_short h) refl }
 
   module _ (h : pack_room ≤ length room) where
-    pub pack_refused : {g : Ground} → judge_patterns text ≡ Refused g → Answered text room (packings.Refused g) room
+    pub pack_refused : {g : Ground} → judge_patterns text ≡ Err g → Answered text room (packings.Refused g) room
     pack_refused e = record { answered = rw (judged_next h, e) refl; memory = rw (judged_next h, e) refl }
 
     module _ {cleared : List ℕ} (k : cleared ≡ filled pack_room (take 0 room) room) where
       pub cleared_start : take pack_room cleared ≡ replicate pack_room 0
       cleared_start = rw k (cleared_take pack_room room)
 
-      pub pack_laid : judge_patterns text ≡ Fine → {r : Packing} {after : List ℕ} → Lays text cleared r after → Answered text room r after
+      pub pack_laid : judge_patterns text ≡ Ok tt → {r : Packing} {after : List ℕ} → Lays text cleared r after → Answered text room r after
       pack_laid e l =
           let behind : drop pack_room cleared ≡ drop pack_room room = ap (drop pack_room) k ∙ cleared_drop pack_room room in
           record {

@@ -8,9 +8,8 @@ use borrow.Author.Tests.{eqb-true}
 use lib.Dec.{eqb}
 use lib.ListN.{length}
 use Rattle.base.specs.Limits.{pack_room}
-use Rattle.base.specs.Grounds.{told, Said, Finds, Row, on, first_of, one_of, first, refuse_if}
-use Rattle.base.specs.declared.Check.{Check}
-use Rattle.base.specs.declared.Check.TheVariants.{Fine, Refused}
+use Rattle.base.specs.Grounds.{told, Said, Finds, Row, on, first_of, one_of, first, refuse_if, Check}
+use Rattle.std.specs.Prelude.{Ok, Err}
 use Rattle.base.specs.declared.Ground.{Ground}
 use Rattle.base.specs.declared.Ground.TheVariants.{PackRoomShort, NoFit}
 use Rattle.base.proofs.Grounds.{Ordered, ordered_first, ordered_if, said_found, said_refused_lem, told_once, refuses_once, no_refusal}
@@ -47,7 +46,7 @@ not_eleven n e = go (eqb n 11) refl
     go false p = refl
     go true p = never (ap (λ (k : ℕ). one_of k (10 ∷ 8 ∷ 7 ∷ [])) (sym (eqb-true n 11 p)) ∙ e)
 
-pub early_number : (text : List ℕ) (size : ℕ) (g : Ground) → judge_pack text size ≡ Refused g → eqb (told g).number 11 ≡ false
+pub early_number : (text : List ℕ) (size : ℕ) (g : Ground) → judge_pack text size ≡ Err g → eqb (told g).number 11 ≡ false
 unfolding pattern_grounds
 early_number text size g e =
     not_eleven (told g).number
@@ -66,17 +65,17 @@ module _ {rows : List Row} (room : List ℕ) where
   packing_said_lem : (judged : Check) (fit : Fit) → Ordered (first judged (refuse_if (has_no_room fit) NoFit)) rows
       → packing_said (packing judged fit) ≡ first_of (Finds (length (fit_bytes fit) ∷ [])) rows
   unfolding packing_said
-  packing_said_lem (Refused g) fit o = sym (said_refused_lem o (length (fit_bytes fit) ∷ []))
-  packing_said_lem Fine NoRoom o = sym (said_refused_lem o (0 ∷ []))
-  packing_said_lem Fine (Packed table) o = sym (said_found o (length table ∷ []))
+  packing_said_lem (Err g) fit o = sym (said_refused_lem o (length (fit_bytes fit) ∷ []))
+  packing_said_lem (Ok _) NoRoom o = sym (said_refused_lem o (0 ∷ []))
+  packing_said_lem (Ok _) (Packed table) o = sym (said_found o (length table ∷ []))
 
-  packing_left : (judged : Check) (fit : Fit) → ((g : Ground) → judged ≡ Refused g → eqb (told g).number 11 ≡ false) → Ordered (first judged (refuse_if (has_no_room fit) NoFit)) rows
+  packing_left : (judged : Check) (fit : Fit) → ((g : Ground) → judged ≡ Err g → eqb (told g).number 11 ≡ false) → Ordered (first judged (refuse_if (has_no_room fit) NoFit)) rows
       → packed_after judged fit room ≡ pack_left (first_of (Finds (length (fit_bytes fit) ∷ [])) rows) (fit_bytes fit) room
-  packing_left (Refused g) fit early o =
+  packing_left (Err g) fit early o =
       let s = said_refused_lem o (length (fit_bytes fit) ∷ []) in
       ap (λ (z : Bool). cond z (filled pack_room [] room) room) (sym (early g refl)) ∙ ap (λ (x : Said). pack_left x (fit_bytes fit) room) (sym s)
-  packing_left Fine NoRoom early o = ap (λ (x : Said). pack_left x [] room) (sym (said_refused_lem o (0 ∷ [])))
-  packing_left Fine (Packed table) early o = ap (λ (x : Said). pack_left x table room) (sym (said_found o (length table ∷ [])))
+  packing_left (Ok _) NoRoom early o = ap (λ (x : Said). pack_left x [] room) (sym (said_refused_lem o (0 ∷ [])))
+  packing_left (Ok _) (Packed table) early o = ap (λ (x : Said). pack_left x table room) (sym (said_found o (length table ∷ [])))
 
 -- from the promise as it is computed to the one by grounds, and back
 module _ (text room : List ℕ) where

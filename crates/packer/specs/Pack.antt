@@ -1,9 +1,7 @@
 -- The packer: its grounds in order, its answer, and what it leaves in the room.
-use Rattle.std.specs.Prelude.{ℕ, Bool, true, false, cond, List, [], ◌∷◌, ◌++◌, ◌≡◌, eqb, length}
+use Rattle.std.specs.Prelude.{ℕ, Bool, true, false, cond, List, [], ◌∷◌, ◌++◌, ◌≡◌, eqb, length, Ok, Err}
 use Rattle.base.specs.Limits.{pack_room}
-use Rattle.base.specs.Grounds.{told, Said, Finds, Refuses, Row, on, first_of, first, refuse_if}
-use Rattle.base.specs.declared.Check.{Check}
-use Rattle.base.specs.declared.Check.TheVariants.{Fine, Refused}
+use Rattle.base.specs.Grounds.{told, Said, Finds, Refuses, Row, on, first_of, first, refuse_if, Check}
 use Rattle.base.specs.declared.Ground.TheVariants.{PackRoomShort, NoFit}
 use Rattle.rooms.specs.Rooms.{is_short, filled}
 use Rattle.lists.specs.Lists.{pattern_grounds, judge_patterns}
@@ -51,19 +49,19 @@ unfoldable pub judge_pack : List ℕ → ℕ → Check
 judge_pack text size = first (refuse_if (is_short pack_room size) PackRoomShort) (judge_patterns text)
 
 abbrev pub packing : Check → Fit → Packing
-packing (Refused g) fit = packings.Refused g
-packing Fine NoRoom = packings.Refused NoFit
-packing Fine (Packed table) = packings.Done (length table)
+packing (Err g) fit = packings.Refused g
+packing (Ok _) NoRoom = packings.Refused NoFit
+packing (Ok _) (Packed table) = packings.Done (length table)
 
 abbrev pub packed_after : Check → Fit → List ℕ → List ℕ
-packed_after (Refused g) fit room = room
-packed_after Fine NoRoom room = filled pack_room [] room
-packed_after Fine (Packed table) room = filled pack_room table room
+packed_after (Err g) fit room = room
+packed_after (Ok _) NoRoom room = filled pack_room [] room
+packed_after (Ok _) (Packed table) room = filled pack_room table room
 
 -- What the packer returns and leaves for a good text, in a room that is zero where a table may stand.
 pub record Lays (text room : List ℕ) (r : Packing) (after : List ℕ) : Type 0 where
-  pub answered : r ≡ packing Fine (first_fit (patterns_of text))
-  pub memory : after ≡ packed_after Fine (first_fit (patterns_of text)) room
+  pub answered : r ≡ packing (Ok tt) (first_fit (patterns_of text))
+  pub memory : after ≡ packed_after (Ok tt) (first_fit (patterns_of text)) room
 
 -- What the packer answers for a room of this size, and what it leaves in a room.
 abbrev pub pack_answer : List ℕ → ℕ → Packing

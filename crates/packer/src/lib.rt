@@ -3,7 +3,6 @@
 
 ghost use Rattle.std.specs.Prelude.{◌≡◌, ◌+◌, ◌*◌, ◌≤◌, ◌<◌, length, take, drop, replicate};
 ghost use Rattle.base.specs.Limits.{cell_limit, entry_limit, pack_room};
-ghost use Rattle.base.specs.declared.Check.{Check};
 ghost use Rattle.rooms.specs.Rooms.{filled};
 ghost use Rattle.words.specs.Symbols.{symbols_of};
 ghost use Rattle.lists.specs.Lists.{judge_patterns};
@@ -16,7 +15,7 @@ ghost use Rattle.fit.specs.Table.{put_kinds, first_fit};
 ghost use Rattle.packer.specs.Pack.{Lays, Packs};
 ghost use Rattle.packer.specs.Post.{as_outputs, entries_in, table_of, as_fit, Bounded};
 
-use base::{Check, Ground};
+use base::Ground;
 use entering::Entered;
 
 // What the packer answers: the table's length, or why it refuses.
@@ -82,7 +81,7 @@ fn put_output(cells: &mut [u8], root: u16, line: &[u8], m: u8, output: u16)
 // The outputs of every pattern of a good text, walked from the root's base, and the entries behind them. The count says how many
 // entries are there before.
 fn put_outputs(cells: &mut [u8], made: &mut [u8], count: u16, root: u16, text: &[u8]) -> Outcome
-    requires { (length made.old ≡ entry_room) × (count ≤ entry_limit) × (judge_patterns text.now ≡ Check.Fine) }
+    requires { (length made.old ≡ entry_room) × (count ≤ entry_limit) × (judge_patterns text.now ≡ Ok tt) }
     ensures count_value { outputs_of root (patterns_of text.now) (fit.Out cells.old made.old count) ≡ as_outputs cells.new made.new result }
     ensures result_bound { entries_in result ≤ entry_limit }
 {
@@ -108,7 +107,7 @@ fn put_outputs(cells: &mut [u8], made: &mut [u8], count: u16, root: u16, text: &
 
 // The layout of a good text, in cells and entries that are zero before.
 fn fill(cells: &mut [u8], made: &mut [u8], text: &[u8]) -> Filled
-    requires { (cells.old ≡ replicate cell_room 0) × (made.old ≡ empty_entries) × (judge_patterns text.now ≡ Check.Fine) }
+    requires { (cells.old ≡ replicate cell_room 0) × (made.old ≡ empty_entries) × (judge_patterns text.now ≡ Ok tt) }
     ensures text_value { first_fit (patterns_of text.now) ≡ as_fit cells.new made.new result }
     ensures bounded { Bounded result }
 {
@@ -143,8 +142,8 @@ fn finish(room: &mut [u8], made: &[u8], cells: u16, entries: u16) -> usize
 }
 
 // The first-fit table of a good text, in a room that is zero where a table may stand.
-fn lay(room: &mut [u8], text: &[u8]) -> Packing
-    requires { (pack_room ≤ length room.old) × (take pack_room room.old ≡ replicate pack_room 0) × (judge_patterns text.now ≡ Check.Fine) }
+fn lay(room: &mut [u8], text: &[u8]) -> Result<usize, Ground>
+    requires { (pack_room ≤ length room.old) × (take pack_room room.old ≡ replicate pack_room 0) × (judge_patterns text.now ≡ Ok tt) }
     ensures { Lays text.now room.old result room.new }
 {
     let mut made = [0u8; table::ENTRY_ROOM];
@@ -155,23 +154,20 @@ fn lay(room: &mut [u8], text: &[u8]) -> Packing
     );
     let Filled::Laid { cells, entries } = filled else {
         rooms::clear_from(room, 0, base::PACK_ROOM);
-        return Packing::Refused(Ground::NoFit);
+        return Err(Ground::NoFit);
     };
     let size = finish(room, &made, cells, entries);
-    Packing::Done(size)
+    Ok(size)
 }
 
 // Packs a pattern list first fit into the room.
-pub fn pack(text: &[u8], room: &mut [u8]) -> Packing
+pub fn pack(text: &[u8], room: &mut [u8]) -> Result<usize, Ground>
     ensures { Packs text.now room.old result room.new }
 {
     if rooms::is_short(room.len(), base::PACK_ROOM) {
-        return Packing::Refused(Ground::PackRoomShort);
+        return Err(Ground::PackRoomShort);
     }
-    let judged = lists::judge_patterns(text);
-    if let Check::Refused(g) = judged {
-        return Packing::Refused(g);
-    }
+    lists::judge_patterns(text)?;
     rooms::clear_from(room, 0, base::PACK_ROOM);
     lay(room, text)
 }

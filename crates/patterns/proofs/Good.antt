@@ -8,18 +8,16 @@ use borrow.Author.Tests.{leb-true, le-leb, eqb-false}
 use lib.Dec.{leb, eqb}
 use lib.ListN.{length, get_or, length-map}
 use Rattle.base.specs.Limits.{edge, apostrophe_symbol, symbol_limit, pattern_limit, pattern_text, level_limit}
-use Rattle.base.specs.declared.Check.TheVariants.{Fine}
+use Rattle.std.specs.Prelude.{Ok, Err}
 use Rattle.base.proofs.Grounds.{both_fine}
 use Rattle.base.proofs.Lists.{clash, never, both}
 use Rattle.words.specs.Symbols.{dot, apostrophe, small, digit, symbol_of, symbols_of}
 use Rattle.words.proofs.Laws.{range_high, small_symbol}
 use Rattle.lines.specs.Apostrophes.{apostrophes_fit}
 use Rattle.lines.specs.Lines.{cut, any_of, line_letter, pattern_form, pattern_bytes, good_pattern}
-use Rattle.lists.specs.Lists.{good_line, first_bad, judge_lines, judge_size, bad_pattern, judge_patterns}
+use Rattle.lists.specs.Lists.{good_line, first_bad, judge_lines, judge_size, bad_pattern, judge_patterns, Lines}
 use Rattle.lists.specs.declared.Form.{Form}
 use Rattle.lists.specs.declared.Form.TheVariants.{Patterns}
-use Rattle.lists.specs.declared.Lines.{Lines}
-use Rattle.lists.specs.declared.Lines.TheVariants.{Good, BadAt}
 use Rattle.lists.proofs.Theorems.{passed, ascending}
 use Rattle.liang.specs.Patterns.{levels_from, pattern_of, patterns_of}
 use Rattle.patterns.proofs.Laws.{line_levels}
@@ -94,14 +92,14 @@ line_low level (b ∷ t) h gap = go (digit b) refl (eqb (symbol_of b) 0) (λ l k
     go false p false next (suc gap) = next 0 (omega arith) gap
 
 -- every line of a list that has no bad line is good
-pub each_good : (form : Form) (at : ℕ) (above : List ℕ) (ls : List (List ℕ)) → first_bad form at above ls ≡ Good → (i : ℕ) → i < length ls → good_line form (get_or ls i []) ≡ true
+pub each_good : (form : Form) (at : ℕ) (above : List ℕ) (ls : List (List ℕ)) → first_bad form at above ls ≡ Ok tt → (i : ℕ) → i < length ls → good_line form (get_or ls i []) ≡ true
 each_good form at above [] e i h = absurd (omega arith)
 each_good form at above (l ∷ ls) e zero h = (passed form at above l ls e).good
 each_good form at above (l ∷ ls) e (suc i) h = each_good form (at + length l) l ls (passed form at above l ls e).onward i (omega arith)
 
-lines_good : (l : Lines) → bad_pattern l ≡ Fine → l ≡ Good
-lines_good Good e = refl
-lines_good (BadAt at) e = clash cc
+lines_good : (l : Lines) → bad_pattern l ≡ Ok tt → l ≡ Ok tt
+lines_good (Ok _) e = refl
+lines_good (Err at) e = clash cc
 
 -- a pattern by its line's number
 nth_line : (ls : List (List ℕ)) (i : ℕ) → i < length ls → nth (map pattern_of ls) i ≡ pattern_of (get_or ls i [])
@@ -109,8 +107,8 @@ nth_line [] i h = absurd (omega arith)
 nth_line (l ∷ ls) zero h = refl
 nth_line (l ∷ ls) (suc i) h = nth_line ls i (omega arith)
 
-module _ (text : List ℕ) (fine : judge_patterns text ≡ Fine) where
-  good : judge_lines Patterns text ≡ Good
+module _ (text : List ℕ) (fine : judge_patterns text ≡ Ok tt) where
+  good : judge_lines Patterns text ≡ Ok tt
   unfolding judge_patterns
   good = lines_good (judge_lines Patterns text) (both_fine (judge_size pattern_text text) (bad_pattern (judge_lines Patterns text)) fine).1
 

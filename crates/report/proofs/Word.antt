@@ -7,9 +7,8 @@ use native.Mathlib.Omega.{arith}
 use lib.Dec.{eqb}
 use lib.ListN.{length, drop, length-append}
 use Rattle.base.specs.Limits.{room_size, word_limit}
-use Rattle.base.specs.Grounds.{told}
-use Rattle.base.specs.declared.Check.{Check}
-use Rattle.base.specs.declared.Check.TheVariants.{Fine, Refused}
+use Rattle.base.specs.Grounds.{told, Check}
+use Rattle.std.specs.Prelude.{Ok, Err}
 use Rattle.base.specs.declared.Ground.{Ground}
 use Rattle.rooms.specs.Rooms.{sheet, written}
 use Rattle.rooms.proofs.Sheets.{sheet_length}
@@ -20,9 +19,7 @@ use Rattle.writing.proofs.Laws.{either_short, digits_short, counted_short, word_
 use Rattle.words.specs.Symbols.{line_feed, hyphen}
 use Rattle.words.specs.Words.{judge_word}
 use Rattle.hyphenation.specs.Breaks.{break_sheet}
-use Rattle.hyphenation.specs.Calls.{judge_word_alone, answer, Answered, breaks_sheet, breaks_looks, word_answer, WordBreaks}
-use Rattle.hyphenation.specs.declared.Answer.{Answer}
-use Rattle.hyphenation.specs.declared.Answer.TheVariants as answers
+use Rattle.hyphenation.specs.Calls.{judge_word_alone, answer, Answered, breaks_sheet, breaks_looks, word_answer, WordBreaks, Answer, found}
 use Rattle.words.proofs.Laws.{word_fits}
 use Rattle.hyphenation.proofs.Order.{word_alone_ordered, computed}
 use Rattle.hyphenation.proofs.Calls.{word_alone_sizes}
@@ -54,14 +51,14 @@ line_short left right word customer house table size = go (judge_word_alone word
   where
     go : (judged : Check) → judge_word_alone word size ≡ judged
         → length (word_line (answer judged (breaks_sheet left right word customer house table) (breaks_looks word customer house table)) (breaks_sheet left right word customer house table) word) ≤ line_limit
-    go Fine e =
+    go (Ok tt) e =
         omega (
           arith,
           word_fits word_limit word (word_alone_sizes word size refl e).0,
           word_short (hyphen ∷ []) (breaks_sheet left right word customer house table) word,
           length-append (hyphenated (hyphen ∷ []) (breaks_sheet left right word customer house table) word) (line_feed ∷ []),
         )
-    go (Refused g) e = omega (arith, told_short question (told g).number (told g).list (told g).place)
+    go (Err g) e = omega (arith, told_short question (told g).number (told g).list (told g).place)
 
 pub line_fits : (left right : ℕ) (word customer house table : List ℕ) (size at n : ℕ) → at + line_limit ≤ n → at + length (line_for left right word customer house table size) ≤ n
 line_fits left right word customer house table size at n h = omega (arith, line_short left right word customer house table size)
@@ -83,11 +80,11 @@ module _ (left right : ℕ) (word customer house table marks : List ℕ) {r : An
   b : Answered (judge_word_alone word (length marks)) (breaks_sheet left right word customer house table) (breaks_looks word customer house table) marks r after
   b = computed (word_alone_ordered word (length marks)) promise
 
-  module _ {count looks : ℕ} (e : r ≡ answers.Found count looks) where
-    alone : judge_word_alone word (length marks) ≡ Fine
+  module _ {count looks : ℕ} (e : r ≡ found count looks) where
+    alone : judge_word_alone word (length marks) ≡ Ok tt
     alone = (finding (judge_word_alone word (length marks)) (breaks_sheet left right word customer house table) (breaks_looks word customer house table) count looks (sym e ∙ b.answered)).judged_fine
 
-    fine : judge_word word_limit word ≡ Fine
+    fine : judge_word word_limit word ≡ Ok tt
     fine = (word_alone_sizes word (length marks) refl alone).0
 
     written_sheet : after ≡ breaks_sheet left right word customer house table ++ drop room_size marks
@@ -113,7 +110,7 @@ module _ (left right : ℕ) (word customer house table marks : List ℕ) {r : An
         ap (λ (m : List ℕ). hyphenated (hyphen ∷ []) m word) written_sheet
         ∙ marks_front (hyphen ∷ []) (breaks_sheet left right word customer house table) (drop room_size marks) word (omega (arith, word_fits word_limit word fine, sheet_long))
 
-    found_answer : word_answer left right word customer house table (length marks) ≡ answers.Found count looks
+    found_answer : word_answer left right word customer house table (length marks) ≡ found count looks
     found_answer = sym b.answered ∙ e
 
     found_line : hyphenated (hyphen ∷ []) after word ++ (line_feed ∷ []) ≡ line_for left right word customer house table (length marks)
@@ -132,8 +129,8 @@ module _ (left right : ℕ) (word customer house table marks : List ℕ) {r : An
           memory = b.memory;
         }
 
-  module _ {g : Ground} (e : r ≡ answers.Refused g) where
-    refused_answer : word_answer left right word customer house table (length marks) ≡ answers.Refused g
+  module _ {g : Ground} (e : r ≡ Err g) where
+    refused_answer : word_answer left right word customer house table (length marks) ≡ Err g
     refused_answer = sym b.answered ∙ e
 
     pub refused_fits : (at n : ℕ) → at + length (line_for left right word customer house table (length marks)) ≤ n → at + length (refusal_line question g) ≤ n

@@ -1,14 +1,12 @@
 -- The lines that the program writes.
-use Rattle.std.specs.Prelude.{ℕ, ◌+◌, ◌*◌, Bool, true, false, cond, List, [], ◌∷◌, ◌++◌, ◌≡◌, eqb, length}
+use Rattle.std.specs.Prelude.{ℕ, ◌+◌, ◌*◌, Bool, true, false, cond, List, [], ◌∷◌, ◌++◌, ◌≡◌, eqb, length, Ok, Err}
 use Rattle.base.specs.Grounds.{told}
 use Rattle.base.specs.declared.Ground.{Ground}
 use Rattle.base.specs.Limits.{word_limit}
 use Rattle.writing.specs.Put.{Put}
 use Rattle.writing.specs.Writing.{space, question, field, counted, hyphenated}
 use Rattle.words.specs.Symbols.{line_feed, hyphen}
-use Rattle.hyphenation.specs.Calls.{judge_word_alone, room_after, breaks_sheet, word_answer}
-use Rattle.hyphenation.specs.declared.Answer.{Answer}
-use Rattle.hyphenation.specs.declared.Answer.TheVariants as answers
+use Rattle.hyphenation.specs.Calls.{judge_word_alone, room_after, breaks_sheet, word_answer, Answer, found}
 use Rattle.report.specs.declared.Line.{Line}
 
 -- A sign ("?" for a word, "!" for a list or a packing), number and place ("for ground 6 list, then offset"), "0 where none".
@@ -23,8 +21,8 @@ refusal_line sign g = told_line sign (told g).number (told g).list (told g).plac
 
 -- A word's line: the word with its breaks, or "?", number and place.
 abbrev pub word_line : Answer → List ℕ → List ℕ → List ℕ
-word_line (answers.Found marks looks) sheet word = hyphenated (hyphen ∷ []) sheet word ++ (line_feed ∷ [])
-word_line (answers.Refused g) sheet word = refusal_line question g
+word_line (Ok f) sheet word = hyphenated (hyphen ∷ []) sheet word ++ (line_feed ∷ [])
+word_line (Err g) sheet word = refusal_line question g
 
 -- The last line: "words", "refused" and what the program sums beside them, each with its number. `hyphenate` sums "probes".
 abbrev pub words_label : List ℕ
@@ -41,12 +39,12 @@ sums_line words refused label sum = counted words_label words ++ (counted refuse
 
 -- The looks that the program's "probes" sum: those of an answer, none where the word is refused.
 abbrev pub looks_of : Answer → ℕ
-looks_of (answers.Found marks looks) = looks
-looks_of (answers.Refused g) = 0
+looks_of (Ok f) = f.looks
+looks_of (Err g) = 0
 
 abbrev pub is_refused : Answer → Bool
-is_refused (answers.Found marks looks) = false
-is_refused (answers.Refused g) = true
+is_refused (Ok f) = false
+is_refused (Err g) = true
 
 -- Every line of a word fits into this many bytes: its letters, as many hyphens at most, and the line feed.
 abbrev pub line_limit : ℕ

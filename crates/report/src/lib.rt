@@ -104,7 +104,7 @@ pub fn put_word<'a>(
             looks: looks,
             refused: false,
         },
-        Answer::Refused(g) => Line {
+        Err(g) => Line {
             end: put_refusal(writing::QUESTION, g, room, at),
             looks: 0,
             refused: true,

@@ -6,9 +6,8 @@ use mathlib.Core.Path.{◌≡◌, refl, sym, ◌∙◌, ap}
 use native.Mathlib.Omega.{arith}
 use lib.ListN.{length, drop, length-append}
 use Rattle.base.specs.Limits.{word_limit1980, room_size1980, budget1980}
-use Rattle.base.specs.Grounds.{told, Finds, Refuses, says}
-use Rattle.base.specs.declared.Check.{Check}
-use Rattle.base.specs.declared.Check.TheVariants.{Fine, Refused}
+use Rattle.base.specs.Grounds.{told, Finds, Refuses, says, Check}
+use Rattle.std.specs.Prelude.{Ok, Err}
 use Rattle.base.specs.declared.Ground.{Ground}
 use Rattle.base.proofs.Grounds.{Ordered, said_found, said_refused_lem, no_refusal}
 use Rattle.base.proofs.Lists.{clash}
@@ -35,24 +34,24 @@ module _ (word : List ℕ) (size : ℕ) where
   judged_as : {c : Check} → judge1980 word size ≡ c → Ordered c (grounds1980 word size)
   judged_as e = record { same = ap says (sym e) ∙ (ordered_1980 word size).same }
 
-  finding : judge1980 word size ≡ Fine → answer1980 budget1980 word size ≡ Finds (values_of (length word) (machine budget1980 word))
+  finding : judge1980 word size ≡ Ok tt → answer1980 budget1980 word size ≡ Finds (values_of (length word) (machine budget1980 word))
   unfolding answer1980
   finding e = said_found (judged_as e) (values_of (length word) (machine budget1980 word))
 
-  refusal : {g : Ground} → judge1980 word size ≡ Refused g → answer1980 budget1980 word size ≡ Refuses (told g)
+  refusal : {g : Ground} → judge1980 word size ≡ Err g → answer1980 budget1980 word size ≡ Refuses (told g)
   unfolding answer1980
   refusal e = said_refused_lem (judged_as e) (values_of (length word) (machine budget1980 word))
 
-  letters_few : judge1980 word size ≡ Fine → length word ≤ word_limit1980
+  letters_few : judge1980 word size ≡ Ok tt → length word ≤ word_limit1980
   letters_few e = letters_fit word_limit1980 word (sizes word size (ordered_1980 word size).same e).0
 
   -- a finding is of a judged word
-  found_fine : {values : List ℕ} → Finds values ≡ answer1980 budget1980 word size → judge1980 word size ≡ Fine
+  found_fine : {values : List ℕ} → Finds values ≡ answer1980 budget1980 word size → judge1980 word size ≡ Ok tt
   found_fine {values} said = go (judge1980 word size) refl
     where
-      go : (judged : Check) → judge1980 word size ≡ judged → judged ≡ Fine
-      go Fine e = refl
-      go (Refused g) e = no_refusal (said ∙ refusal e)
+      go : (judged : Check) → judge1980 word size ≡ judged → judged ≡ Ok tt
+      go (Ok _) e = refl
+      go (Err g) e = no_refusal (said ∙ refusal e)
 
 -- every line of a word has at most this many bytes, whatever the call answers
 broken_short : (shown word : List ℕ) → length word ≤ word_limit1980 → length (hyphenated (hyphen ∷ []) shown word ++ (line_feed ∷ [])) ≤ line_limit1980
@@ -66,8 +65,8 @@ line_short : (word : List ℕ) (size : ℕ) → length (reprint_line word size) 
 line_short word size = go (judge1980 word size) refl
   where
     go : (judged : Check) → judge1980 word size ≡ judged → length (reprint_line word size) ≤ line_limit1980
-    go Fine e = rw (finding word size e) (outcome_short (machine budget1980 word) word (letters_few word size e))
-    go (Refused g) e = rw (refusal word size e) (omega (arith, told_short question (told g).number (told g).list (told g).place))
+    go (Ok _) e = rw (finding word size e) (outcome_short (machine budget1980 word) word (letters_few word size e))
+    go (Err g) e = rw (refusal word size e) (omega (arith, told_short question (told g).number (told g).list (told g).place))
 
 pub line_fits : (word : List ℕ) (size at n : ℕ) → at + line_limit1980 ≤ n → at + length (reprint_line word size) ≤ n
 line_fits word size at n h = omega (arith, line_short word size)
@@ -94,7 +93,7 @@ module _ (word marks : List ℕ) {r : Answer1980} {after : List ℕ} (promise : 
     unfolding said1980
     found_said = ap said1980 (sym e) ∙ promise.answered
 
-    fine : judge1980 word (length marks) ≡ Fine
+    fine : judge1980 word (length marks) ≡ Ok tt
     fine = found_fine word (length marks) found_said
 
     ran : Ran (machine budget1980 word) executed

@@ -37,7 +37,7 @@ pub fn put_reprint(word: &[u8], marks: &mut [u8], room: &mut [u8], at: usize) ->
             executed: 0,
             refused: true,
         },
-        Answer1980::Refused(g) => Line {
+        Err(g) => Line {
             end: report::put_refusal(writing::QUESTION, g, room, at),
             executed: 0, // the word is judged before anything runs
             refused: true, // on its ground

@@ -1,7 +1,6 @@
 -- "A table is right for a list": document 01's sentence, clause by clause. Cells and entries are the two parts of the table.
 use Rattle.std.specs.Prelude.{ℕ, ◌+◌, ◌*◌, ◌≤◌, ◌<◌, true, List, ◌≡◌, length, get_or}
-use Rattle.table.specs.Table.{cell_kind, entry_kind, cell_size, entry_size}
-use Rattle.table.specs.declared.Look.TheVariants.{Hit}
+use Rattle.table.specs.Table.{cell_kind, entry_kind, cell_size, entry_size, hit}
 use Rattle.liang.specs.Patterns.{Pattern}
 use Rattle.walk.specs.Chain.{chain}
 use Rattle.walk.specs.Raise.{highest_set}
@@ -27,7 +26,7 @@ pub record PathsRight (patterns : List Pattern) (cells entries : List ℕ) (root
   -- "and every path is one"
   pub only : (u : List ℕ) → Path cells root u → Beginning patterns u
   -- "a pattern's path sets, distance by distance, exactly the pattern's levels"
-  pub exact : (i : ℕ) → i < length patterns → (link output : ℕ) → along cells root (nth patterns i).symbols ≡ Hit link output → Exact entries (nth patterns i) output
+  pub exact : (i : ℕ) → i < length patterns → (link output : ℕ) → along cells root (nth patterns i).symbols ≡ hit link output → Exact entries (nth patterns i) output
   -- "other paths have output 0"
   pub silent : (u : List ℕ) (p : Path cells root u) → ((i : ℕ) → i < length patterns → (nth patterns i).symbols ≡ u → ⊥) → p.output ≡ 0
 

@@ -2,17 +2,14 @@
 -- exactly where `Right` does. Only strings of the list are followed, so its work is bounded by the list: the patterns stand in
 -- order, and so each path's continuations are met in order too. At each step the table must go on with the pattern's own symbol
 -- and with none of those that the list passes over. `Node` and `Beside`, which the checker keeps on its way, are src/lib.rt's.
-use Rattle.std.specs.Prelude.{ℕ, zero, suc, ◌+◌, ◌-◌, Bool, true, false, cond, not, ◌&&◌, ◌||◌, List, [], ◌∷◌, ◌++◌, leb, ltb, eqb, get_or}
+use Rattle.std.specs.Prelude.{ℕ, zero, suc, ◌+◌, ◌-◌, Bool, true, false, cond, not, ◌&&◌, ◌||◌, List, [], ◌∷◌, ◌++◌, leb, ltb, eqb, get_or, Some, None}
 use Rattle.base.specs.Limits.{symbol_limit, pattern_limit}
 use Rattle.base.specs.Tests.{all_from}
-use Rattle.base.specs.Grounds.{Row, on, first, refuse_if}
-use Rattle.base.specs.declared.Check.{Check}
+use Rattle.base.specs.Grounds.{Row, on, first, refuse_if, Check}
 use Rattle.base.specs.declared.Ground.TheVariants.{NotRight}
 use Rattle.lists.specs.Lists.{pattern_grounds, judge_patterns}
 use Rattle.liang.specs.Patterns.{Pattern, patterns_of}
-use Rattle.table.specs.Table.{root_base, cell_kind, entry_kind, cell_size, entry_size, cell_count, entry_count, table_grounds, judge_table, cells_of, entries_of, look}
-use Rattle.table.specs.declared.Look.{Look}
-use Rattle.table.specs.declared.Look.TheVariants.{Hit, Miss}
+use Rattle.table.specs.Table.{root_base, cell_kind, entry_kind, cell_size, entry_size, cell_count, entry_count, table_grounds, judge_table, cells_of, entries_of, look, Look, hit}
 use Rattle.walk.specs.Chain.{chain}
 use Rattle.walk.specs.Raise.{highest_set}
 use Rattle.trie.specs.Sound.{sound}
@@ -44,11 +41,11 @@ root_at base = record { leaf = false; base = base }
 
 -- The look at how the table goes on from a node with a symbol.
 unfoldable pub child_at : List ℕ → Node → ℕ → Look
-child_at cells node s = cond node.leaf Miss (look cells (node.base + s) s)
+child_at cells node s = cond node.leaf None (look cells (node.base + s) s)
 
 abbrev pub is_hit : Look → Bool
-is_hit Miss = false
-is_hit (Hit link output) = true
+is_hit None = false
+is_hit (Some found) = true
 
 -- From a node the table goes on with no symbol between two others.
 unfoldable pub none_between : List ℕ → Node → ℕ → ℕ → Bool
@@ -66,8 +63,8 @@ passed_over cells beside node m s =
 -- the pattern ends, else 0; those of the symbols shared with the pattern above were tested there. A path has at most 16 symbols, so
 -- nothing is asked of how the table goes on behind as many.
 unfoldable pub follow_step : (ℕ → ℕ → Bool) → Look → Bool
-follow_step go Miss = false
-follow_step go (Hit link output) = go link output
+follow_step go None = false
+follow_step go (Some found) = go found.link found.output
 
 unfoldable pub follow : List ℕ → List ℕ → List ℕ → Beside → Node → ℕ → ℕ → List ℕ → Bool
 follow cells entries levels beside node output m [] =

@@ -4,19 +4,19 @@
 // break; or, behind a word and the line in words, what came out and the gap, a refusal as "?", number and place.
 #![tactic(auto)]
 
-use base::Check;
+use base::Ground;
 use gauge::{Fitting, Gauge};
 use hyphenation::Answer;
 
 // "Empty list: C 1, E 0, 12 bytes": a table in which no walk finds anything.
 const EMPTY_TABLE: [u8; 12] = [1, 1, 0, 1, 0, 0, 2, 0, 0, 0, 0, 0];
 
-fn show(sample: &[u8], judged: Check) {
+fn show(sample: &[u8], judged: Result<(), Ground>) {
     io::write_all(1, sample);
     let mut number = 0;
     let mut list = 0;
     let mut place = 0;
-    if let Check::Refused(g) = judged {
+    if let Err(g) = judged {
         number = base::number_of(g);
         list = base::list_of(g);
         place = base::place_of(g);
@@ -98,12 +98,12 @@ fn told(first: usize, second: usize) {
     io::write_all(1, b"\n");
 }
 
-fn show_fitting(fitting: Fitting) {
+fn show_fitting(fitting: Result<Fitting, Ground>) {
     match fitting {
         Fitting::Whole => told(gauge::WHOLE_OUTCOME, 0),
         Fitting::Break(gap) => told(gauge::BREAK_OUTCOME, gap),
         Fitting::Nowhere => told(gauge::NONE_OUTCOME, 0),
-        Fitting::Refused(g) => {
+        Err(g) => {
             io::write_all(1, b" ?");
             told(base::number_of(g), base::place_of(g));
         }

@@ -7,9 +7,8 @@ use native.Mathlib.Omega.{arith}
 use borrow.Author.Tests.{ltb-false}
 use lib.ListN.{length, take}
 use Rattle.base.specs.Limits.{room_per_byte, running_text}
-use Rattle.base.specs.Grounds.{refuse_if}
-use Rattle.base.specs.declared.Check.{Check}
-use Rattle.base.specs.declared.Check.TheVariants.{Fine, Refused}
+use Rattle.base.specs.Grounds.{refuse_if, Check}
+use Rattle.std.specs.Prelude.{Ok, Err}
 use Rattle.base.specs.declared.Ground.{Ground}
 use Rattle.base.specs.declared.Ground.TheVariants.{TextRoomShort, RunningLong}
 use Rattle.base.proofs.Grounds.{both_fine, not_refused}
@@ -30,7 +29,7 @@ unfolding short_for
 room_fits bytes size e = ltb-false size (room_per_byte * bytes) e
 
 -- a refusal leaves state and room alone, whatever the call
-pub refused : (text : List ℕ) (looks : ℕ) (state then : TextState) (room : List ℕ) {judged judgement : Check} {g : Ground} → judged ≡ judgement → judged ≡ Refused g
+pub refused : (text : List ℕ) (looks : ℕ) (state then : TextState) (room : List ℕ) {judged judgement : Check} {g : Ground} → judged ≡ judgement → judged ≡ Err g
     → Given judgement text looks state then room (record { state = state; answer = answers.Refused g }) room
 refused text looks state then room p q = record { answered = rw (← p, q); state = rw (← p, q); memory = rw (← p, q) }
 
@@ -40,7 +39,7 @@ module _ (state s : TextState) (e : Reads state s) (left right : ℕ) (customer 
     pub piece_judged : judged ≡ judge_piece left right customer house table (total_now state) (read_state state).size (length piece) (length room)
     piece_judged = p ∙ ap (λ (t : TextState). judge_piece left right customer house table t.total t.size (length piece) (length room)) e.is
 
-    pub piece_asks : judged ≡ Fine → Left s × (s.total + length piece ≤ running_text) × (room_per_byte * (s.size + length piece) ≤ length room)
+    pub piece_asks : judged ≡ Ok tt → Left s × (s.total + length piece ≤ running_text) × (room_per_byte * (s.size + length piece) ≤ length room)
     unfolding judge_piece
     piece_asks q =
         let a = both_fine (judge_setting left right customer house table) _ (sym p ∙ q) in
@@ -55,7 +54,7 @@ module _ (state s : TextState) (e : Reads state s) (left right : ℕ) (customer 
         (piece_text left right customer house table (held_in t) piece) (piece_looks customer house table (held_in t) piece)
         state (state_of (held_after (held_in t) piece) (t.total + length piece)) room r after
 
-    pub piece_found : judged ≡ Fine → {r : Taken} {after : List ℕ} → PiecesDone s left right customer house table piece room r after → Promise (read_state state) r after
+    pub piece_found : judged ≡ Ok tt → {r : Taken} {after : List ℕ} → PiecesDone s left right customer house table piece room r after → Promise (read_state state) r after
     piece_found q {r = r} {after = after} d =
         let j = sym p ∙ q in
         subst (λ (t : TextState). Promise t r after) e.is (rw j (record { answered = d.answered; state = d.state; memory = d.memory }))
@@ -64,7 +63,7 @@ module _ (state s : TextState) (e : Reads state s) (left right : ℕ) (customer 
     pub end_judged : judged ≡ judge_end left right customer house table (read_state state).size (length room)
     end_judged = p ∙ ap (λ (t : TextState). judge_end left right customer house table t.size (length room)) e.is
 
-    module _ (q : judged ≡ Fine) where
+    module _ (q : judged ≡ Ok tt) where
       pub end_asks : (s.size ≤ length s.held) × (can_be_held (take s.size s.held) ≡ true) × (room_per_byte * s.size ≤ length room)
       unfolding judge_end
       end_asks =

@@ -11,8 +11,8 @@ use lib.Dec.{ltb}
 use lib.ListN.{length, take, drop, replicate, length-append, length-replicate, drop_of_length-le}
 use lib.Seq.{sets-eq, length-take-le}
 use Rattle.base.specs.Limits.{held_limit, room_per_byte, running_text}
-use Rattle.base.specs.declared.Check.{Check}
-use Rattle.base.specs.declared.Check.TheVariants.{Fine, Refused}
+use Rattle.base.specs.Grounds.{Check}
+use Rattle.std.specs.Prelude.{Ok, Err}
 use Rattle.base.specs.declared.Ground.{Ground}
 use Rattle.base.specs.declared.Ground.TheVariants.{TextRoomShort, RunningLong}
 use Rattle.rooms.specs.Rooms.{is_short, filled}
@@ -51,35 +51,35 @@ past_bound total n e = ltb-false running_text (total + n) e
 
 -- a piece's grounds, one behind the other
 module _ (left right : ℕ) (customer house table : List ℕ) (total held n size : ℕ) {c : Check} (p : c ≡ judge_setting left right customer house table) where
-  pub piece_setting : {g : Ground} → c ≡ Refused g → Refused g ≡ judge_piece left right customer house table total held n size
+  pub piece_setting : {g : Ground} → c ≡ Err g → Err g ≡ judge_piece left right customer house table total held n size
   unfolding judge_piece
   piece_setting q = rw (← p, q)
 
-  module _ (q : c ≡ Fine) {z : Bool} (e : z ≡ passes_end total n) where
-    pub piece_past : z ≡ true → Refused RunningLong ≡ judge_piece left right customer house table total held n size
+  module _ (q : c ≡ Ok tt) {z : Bool} (e : z ≡ passes_end total n) where
+    pub piece_past : z ≡ true → Err RunningLong ≡ judge_piece left right customer house table total held n size
     unfolding judge_piece
     piece_past f = rw (← p, q, ← e, f)
 
     module _ (f : z ≡ false) {y : Bool} (d : y ≡ is_short (room_per_byte * (held + n)) size) where
-      pub piece_room_lem : y ≡ true → Refused TextRoomShort ≡ judge_piece left right customer house table total held n size
+      pub piece_room_lem : y ≡ true → Err TextRoomShort ≡ judge_piece left right customer house table total held n size
       unfolding judge_piece short_for
       piece_room_lem g = rw (← p, q, ← e, f, ← d, g)
 
-      pub piece_fine : y ≡ false → Fine ≡ judge_piece left right customer house table total held n size
+      pub piece_fine : y ≡ false → (Ok tt) ≡ judge_piece left right customer house table total held n size
       unfolding judge_piece short_for
       piece_fine g = rw (← p, q, ← e, f, ← d, g)
 
 module _ (left right : ℕ) (customer house table : List ℕ) (held size : ℕ) {c : Check} (p : c ≡ judge_setting left right customer house table) where
-  pub end_setting : {g : Ground} → c ≡ Refused g → Refused g ≡ judge_end left right customer house table held size
+  pub end_setting : {g : Ground} → c ≡ Err g → Err g ≡ judge_end left right customer house table held size
   unfolding judge_end
   end_setting q = rw (← p, q)
 
-  module _ (q : c ≡ Fine) {y : Bool} (d : y ≡ is_short (room_per_byte * held) size) where
-    pub end_room_lem : y ≡ true → Refused TextRoomShort ≡ judge_end left right customer house table held size
+  module _ (q : c ≡ Ok tt) {y : Bool} (d : y ≡ is_short (room_per_byte * held) size) where
+    pub end_room_lem : y ≡ true → Err TextRoomShort ≡ judge_end left right customer house table held size
     unfolding judge_end short_for
     end_room_lem g = rw (← p, q, ← d, g)
 
-    pub end_fine : y ≡ false → Fine ≡ judge_end left right customer house table held size
+    pub end_fine : y ≡ false → (Ok tt) ≡ judge_end left right customer house table held size
     unfolding judge_end short_for
     end_fine g = rw (← p, q, ← d, g)
 

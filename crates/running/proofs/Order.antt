@@ -4,9 +4,8 @@ use Prim.Native.Nat.{ℕ, ◌+◌}
 use mathlib.Core.List.{List, [], ◌∷◌}
 use mathlib.Core.Path.{◌≡◌, sym, ◌∙◌, ap}
 use lib.ListN.{length}
-use Rattle.base.specs.Grounds.{Said, Row}
-use Rattle.base.specs.declared.Check.{Check}
-use Rattle.base.specs.declared.Check.TheVariants.{Fine, Refused}
+use Rattle.base.specs.Grounds.{Said, Row, Check}
+use Rattle.std.specs.Prelude.{Ok, Err}
 use Rattle.base.specs.declared.Ground.TheVariants.{TextRoomShort, RunningLong}
 use Rattle.base.proofs.Grounds.{Ordered, ordered_first, ordered_if, said_found, said_refused_lem, told_once, refuses_once, no_refusal}
 use Rattle.lists.proofs.Order.{lists_ordered}
@@ -47,16 +46,16 @@ answer_once (answers.Refused g) (answers.Refused h) e = ap answers.Refused (told
 module _ (text : List ℕ) (looks : ℕ) {rows : List Row} where
   answer_said_lem : (judged : Check) → Ordered judged rows → text_said (text_answer judged text looks) ≡ written_or rows text looks
   unfolding text_said
-  answer_said_lem Fine o = sym (said_found o (length text ∷ looks ∷ []))
-  answer_said_lem (Refused g) o = sym (said_refused_lem o (length text ∷ looks ∷ []))
+  answer_said_lem (Ok _) o = sym (said_found o (length text ∷ looks ∷ []))
+  answer_said_lem (Err g) o = sym (said_refused_lem o (length text ∷ looks ∷ []))
 
   room_left_lem : (judged : Check) → Ordered judged rows → (room : List ℕ) → text_after judged text room ≡ text_left (written_or rows text looks) text room
-  room_left_lem Fine o room = ap (λ (s : Said). text_left s text room) (sym (said_found o (length text ∷ looks ∷ [])))
-  room_left_lem (Refused g) o room = ap (λ (s : Said). text_left s text room) (sym (said_refused_lem o (length text ∷ looks ∷ [])))
+  room_left_lem (Ok _) o room = ap (λ (s : Said). text_left s text room) (sym (said_found o (length text ∷ looks ∷ [])))
+  room_left_lem (Err g) o room = ap (λ (s : Said). text_left s text room) (sym (said_refused_lem o (length text ∷ looks ∷ [])))
 
   state_left_lem : (judged : Check) → Ordered judged rows → (given then : TextState) → state_after judged given then ≡ state_left (written_or rows text looks) given then
-  state_left_lem Fine o given then = ap (λ (s : Said). state_left s given then) (sym (said_found o (length text ∷ looks ∷ [])))
-  state_left_lem (Refused g) o given then = ap (λ (s : Said). state_left s given then) (sym (said_refused_lem o (length text ∷ looks ∷ [])))
+  state_left_lem (Ok _) o given then = ap (λ (s : Said). state_left s given then) (sym (said_found o (length text ∷ looks ∷ [])))
+  state_left_lem (Err g) o given then = ap (λ (s : Said). state_left s given then) (sym (said_refused_lem o (length text ∷ looks ∷ [])))
 
 -- from the promise by judgements to the one by grounds, and back
 module _ {judged : Check} {rows : List Row} (o : Ordered judged rows) {text : List ℕ} {looks : ℕ} {given then : TextState} {room : List ℕ} {r : Taken} {after : List ℕ} where

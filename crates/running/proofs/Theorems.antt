@@ -8,9 +8,8 @@ use native.Mathlib.Omega.{arith}
 use borrow.Author.Tests.{le-ltb}
 use lib.ListN.{length, length-append}
 use Rattle.base.specs.Limits.{held_limit, room_per_byte, running_text}
-use Rattle.base.specs.Grounds.{refuse_if}
-use Rattle.base.specs.declared.Check.{Check}
-use Rattle.base.specs.declared.Check.TheVariants.{Fine, Refused}
+use Rattle.base.specs.Grounds.{refuse_if, Check}
+use Rattle.std.specs.Prelude.{Ok, Err}
 use Rattle.base.specs.declared.Ground.TheVariants.{RunningLong}
 use Rattle.base.proofs.Grounds.{both_fine, not_refused}
 use Rattle.runs.specs.Text.{Held, Holding, held_of}
@@ -43,7 +42,7 @@ module _ (h : Held) (total : ℕ) (short : total ≤ running_text) (r : is_reach
 
 module _ (left right : ℕ) (customer house table : List ℕ) where
   -- what an answered piece says of the total
-  pub answered_short : (state : TextState) (piece : List ℕ) (room : ℕ) → judged_piece state left right customer house table piece room ≡ Fine → total_now state + length piece ≤ running_text
+  pub answered_short : (state : TextState) (piece : List ℕ) (room : ℕ) → judged_piece state left right customer house table piece room ≡ Ok tt → total_now state + length piece ≤ running_text
   unfolding judge_piece
   answered_short state piece room e =
       let a = both_fine (judge_setting left right customer house table) _ e in
@@ -97,7 +96,7 @@ module _ (left right : ℕ) (customer house table : List ℕ) where
       (answered_first left right customer house table (state_of h total) piece
       (rest (state_after judged (state_of h total) (state_of (held_after (held_now (state_of h total)) piece) (total_now (state_of h total) + length piece)))))
       (rest (state_after judged (state_of h total) (state_of (held_after (held_now (state_of h total)) piece) (total_now (state_of h total) + length piece)))))
-  call_follows h total s r piece room rest later same Fine e =
+  call_follows h total s r piece room rest later same (Ok tt) e =
       let t : total + length piece ≤ running_text = omega (arith, total_same h total s r, answered_short (state_of h total) piece room e) in
       let n : state_of (held_after (held_now (state_of h total)) piece) (total_now (state_of h total) + length piece) ≡ state_of (held_after h piece) (total + length piece) =
       ap (λ (x : Held). state_of (held_after x piece) (total_now (state_of h total) + length piece)) (held_same h total s r)
@@ -111,7 +110,7 @@ module _ (left right : ℕ) (customer house table : List ℕ) where
       })) (sym (held_same h total s r))
       (one_follows h total piece (rest (state_of (held_after (held_now (state_of h total)) piece) (total_now (state_of h total) + length piece)))
       (subst (λ (x : TextState). Follows (held_after h piece) (total + length piece) (rest x)) (sym n) (later t (after_reached h total piece r))))
-  call_follows h total s r piece room rest later same (Refused g) e = same
+  call_follows h total s r piece room rest later same (Err g) e = same
 
   session_follows : (calls : List Call) (h : Held) (total : ℕ) → total ≤ running_text → is_reached h total ≡ true
       → Follows h total (session left right customer house table (state_of h total) calls)
@@ -170,7 +169,7 @@ module _ (left right : ℕ) (customer house table : List ℕ) where
         ∙ zero-add (length whole)
 
   -- Every answered call leaves a state that a text leaves, whatever state it was given: a piece, and the end, which leaves a new text's.
-  pub answered_left : (state : TextState) → length state.held ≡ held_limit → (piece : List ℕ) (room : ℕ) → judged_piece state left right customer house table piece room ≡ Fine
+  pub answered_left : (state : TextState) → length state.held ≡ held_limit → (piece : List ℕ) (room : ℕ) → judged_piece state left right customer house table piece room ≡ Ok tt
       → is_left (piece_next state left right customer house table piece room) ≡ true
   answered_left state wide piece room e =
       let l = read_left_state state wide in
@@ -179,12 +178,12 @@ module _ (left right : ℕ) (customer house table : List ℕ) where
       rw e
       (made_left (held_after (held_now state) piece) (total_now state + length piece) (answered_short state piece room e) (after_reached (held_now state) (total_now state) piece r))
 
-  pub ended_left : (state : TextState) (room : ℕ) → judged_end state left right customer house table room ≡ Fine → is_left (end_next state left right customer house table room) ≡ true
+  pub ended_left : (state : TextState) (room : ℕ) → judged_end state left right customer house table room ≡ Ok tt → is_left (end_next state left right customer house table room) ≡ true
   ended_left state room e = rw e (made_left (Holding []) 0 (omega arith) new_reached)
 
   -- Each such state is left by a call: a new text, one piece, and three bytes of room for each of its bytes, with any margins, lists and
   -- table that aren't refused.
-  judged_new : (n : ℕ) → n ≤ running_text → judge_setting left right customer house table ≡ Fine → judge_piece left right customer house table 0 0 n (room_per_byte * n) ≡ Fine
+  judged_new : (n : ℕ) → n ≤ running_text → judge_setting left right customer house table ≡ Ok tt → judge_piece left right customer house table 0 0 n (room_per_byte * n) ≡ Ok tt
   unfolding judge_piece passes_end short_for
   judged_new n h e =
       let z : 0 + n ≡ n = zero-add n in
@@ -194,7 +193,7 @@ module _ (left right : ℕ) (customer house table : List ℕ) where
   unfolding state_of
   new_judged n room = ap (λ (t : TextState). judge_piece left right customer house table t.total t.size n room) (read_same (Holding []) 0 (omega arith) new_reached)
 
-  pub left_by_call : (t : TextState) (l : Left t) → judge_setting left right customer house table ≡ Fine
+  pub left_by_call : (t : TextState) (l : Left t) → judge_setting left right customer house table ≡ Ok tt
       → piece_next new_text left right customer house table l.reached.text (room_per_byte * length l.reached.text) ≡ t
   left_by_call t l e =
       let j = new_judged (length l.reached.text) (room_per_byte * length l.reached.text) ∙ judged_new (length l.reached.text) (omega (arith, l.reached.long, l.short)) e in

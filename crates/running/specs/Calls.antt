@@ -1,10 +1,8 @@
 -- CR 6: the two calls of a running text: their grounds in order, their answers, the state that they give back, and what they leave in the
 -- room.
-use Rattle.std.specs.Prelude.{ℕ, ◌+◌, ◌*◌, Bool, List, [], ◌∷◌, ◌++◌, ◌≡◌, ltb, length, drop}
+use Rattle.std.specs.Prelude.{ℕ, ◌+◌, ◌*◌, Bool, List, [], ◌∷◌, ◌++◌, ◌≡◌, ltb, length, drop, Ok, Err}
 use Rattle.base.specs.Limits.{running_text, room_per_byte}
-use Rattle.base.specs.Grounds.{told, Said, Finds, Refuses, Row, on, first_of, first, refuse_if}
-use Rattle.base.specs.declared.Check.{Check}
-use Rattle.base.specs.declared.Check.TheVariants.{Fine, Refused}
+use Rattle.base.specs.Grounds.{told, Said, Finds, Refuses, Row, on, first_of, first, refuse_if, Check}
 use Rattle.base.specs.declared.Ground.TheVariants.{TextRoomShort, RunningLong}
 use Rattle.rooms.specs.Rooms.{is_short}
 use Rattle.lists.specs.Lists.{list_grounds, judge_lists}
@@ -95,16 +93,16 @@ unfoldable pub judge_end : ℕ → ℕ → List ℕ → List ℕ → List ℕ �
 judge_end left right customer house table held size = first (judge_setting left right customer house table) (refuse_if (short_for held size) TextRoomShort)
 
 abbrev pub text_answer : Check → List ℕ → ℕ → TextAnswer
-text_answer Fine text looks = answers.Written (length text) looks
-text_answer (Refused g) text looks = answers.Refused g
+text_answer (Ok _) text looks = answers.Written (length text) looks
+text_answer (Err g) text looks = answers.Refused g
 
 abbrev pub text_after : Check → List ℕ → List ℕ → List ℕ
-text_after Fine text room = text ++ drop (length text) room
-text_after (Refused g) text room = room
+text_after (Ok _) text room = text ++ drop (length text) room
+text_after (Err g) text room = room
 
 abbrev pub state_after : Check → TextState → TextState → TextState
-state_after Fine given then = then
-state_after (Refused g) given then = given
+state_after (Ok _) given then = then
+state_after (Err g) given then = given
 
 pub record Given (judged : Check) (text : List ℕ) (looks : ℕ) (given then : TextState) (room : List ℕ) (r : Taken) (after : List ℕ) : Type 0 where
   pub answered : r.answer ≡ text_answer judged text looks
@@ -145,7 +143,7 @@ end_room state left right customer house table room =
 -- The parts behind all judgements, over a state as it is read, and over the bytes held.
 abbrev pub PiecesDone : TextState → (left right : ℕ) (customer house table piece room : List ℕ) → Taken → List ℕ → Type 0
 PiecesDone s left right customer house table piece room =
-    Given Fine (piece_text left right customer house table (held_in s) piece) (piece_looks customer house table (held_in s) piece) s
+    Given (Ok tt) (piece_text left right customer house table (held_in s) piece) (piece_looks customer house table (held_in s) piece) s
     (state_of (held_after (held_in s) piece) (s.total + length piece)) room
 
 pub record EndsDone (kept : List ℕ) (left right : ℕ) (customer house table room : List ℕ) (r : TextAnswer) (after : List ℕ) : Type 0 where

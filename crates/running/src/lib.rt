@@ -8,7 +8,7 @@ ghost use Rattle.runs.specs.Reached.{can_be_held};
 ghost use Rattle.states.specs.State.{Left};
 ghost use Rattle.running.specs.Calls.{passes_end, setting_grounds, piece_grounds, end_grounds, Pieces, PiecesDone, Ends, EndsDone};
 
-use base::{Check, Ground};
+use base::Ground;
 use flowing::Flow;
 use states::TextState;
 
@@ -23,7 +23,7 @@ pub enum TextAnswer {
 #[derive(Clone, Copy)]
 pub struct Taken {
     pub state: TextState,
-    pub answer: TextAnswer,
+    pub answer: Result<Written, Ground>,
 }
 
 // The grounds that both calls ask first: 1, 8, 6, 9.
@@ -33,17 +33,11 @@ pub fn judge_setting(
     customer: &[u8],
     house: &[u8],
     table: &[u8],
-) -> Check
+) -> Result<(), Ground>
     ensures { says result ≡ first_of (Finds []) (setting_grounds left right customer.now house.now table.now) }
 {
-    let margins = hyphenation::judge_margins(left, right);
-    if let Check::Refused(g) = margins {
-        return Check::Refused(g);
-    }
-    let lists = lists::judge_lists(customer, house);
-    if let Check::Refused(g) = lists {
-        return Check::Refused(g);
-    }
+    hyphenation::judge_margins(left, right)?;
+    lists::judge_lists(customer, house)?;
     table::judge_table(table)
 }
 
@@ -68,20 +62,17 @@ pub fn judge_piece(
     held: u8,
     n: usize,
     size: usize,
-) -> Check
+) -> Result<(), Ground>
     ensures { says result ≡ first_of (Finds []) (piece_grounds left right customer.now house.now table.now total held n size) }
 {
-    let setting = judge_setting(left, right, customer, house, table);
-    if let Check::Refused(g) = setting {
-        return Check::Refused(g);
-    }
+    judge_setting(left, right, customer, house, table)?;
     if is_past(total, n) {
-        return Check::Refused(Ground::RunningLong);
+        return Err(Ground::RunningLong);
     }
     if rooms::is_short(size, base::ROOM_PER_BYTE * (held as usize + n)) {
-        return Check::Refused(Ground::TextRoomShort);
+        return Err(Ground::TextRoomShort);
     }
-    Check::Fine
+    Ok(())
 }
 
 // The grounds of the end, where so many bytes are held: 1, 8, 6, 9, 14.
@@ -93,17 +84,14 @@ pub fn judge_end(
     table: &[u8],
     held: u8,
     size: usize,
-) -> Check
+) -> Result<(), Ground>
     ensures { says result ≡ first_of (Finds []) (end_grounds left right customer.now house.now table.now held size) }
 {
-    let setting = judge_setting(left, right, customer, house, table);
-    if let Check::Refused(g) = setting {
-        return Check::Refused(g);
-    }
+    judge_setting(left, right, customer, house, table)?;
     if rooms::is_short(size, base::ROOM_PER_BYTE * held as usize) {
-        return Check::Refused(Ground::TextRoomShort);
+        return Err(Ground::TextRoomShort);
     }
-    Check::Fine
+    Ok(())
 }
 
 // A judged piece.
@@ -156,7 +144,7 @@ fn flow_end<'a>(
     house: &'a [u8],
     table: &[u8],
     room: &mut [u8],
-) -> TextAnswer
+) -> Result<Written, Ground>
     requires { (size ≤ length held.now) × (can_be_held (take size held.now) ≡ true) × (room_per_byte * size ≤ length room.old) }
     ensures { EndsDone (take size held.now) left right customer.now house.now table.now room.old result room.new }
 {
@@ -192,10 +180,10 @@ pub fn take_piece<'a>(
         piece.len(),
         room.len(),
     );
-    if let Check::Refused(g) = judged {
+    if let Err(g) = judged {
         return Taken {
             state: state, // as it was given
-            answer: TextAnswer::Refused(g),
+            answer: Err(g),
         };
     }
     flow_piece(s, left, right, customer, house, table, piece, room)
@@ -215,10 +203,10 @@ pub fn end_text<'a>(
 {
     let s = states::read_state(state);
     let judged = judge_end(left, right, customer, house, table, s.size, room.len());
-    if let Check::Refused(g) = judged {
+    if let Err(g) = judged {
         return Taken {
             state: state, // the text stays open
-            answer: TextAnswer::Refused(g),
+            answer: Err(g),
         };
     }
     let held = s.held;

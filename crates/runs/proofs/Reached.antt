@@ -12,8 +12,8 @@ use lib.Dec.{leb, eqb}
 use lib.ListN.{length, get_or, take, drop, replicate, length-append, length-replicate, take-append-drop, get_or-replicate, get_or-append}
 use lib.Seq.{get_or-append-add, take-suc, take_all}
 use Rattle.base.specs.Limits.{word_limit}
-use Rattle.base.specs.declared.Check.{Check}
-use Rattle.base.specs.declared.Check.TheVariants.{Fine, Refused}
+use Rattle.base.specs.Grounds.{Check}
+use Rattle.std.specs.Prelude.{Ok, Err}
 use Rattle.base.proofs.Lists.{never, both}
 use Rattle.words.specs.Symbols.{letter, small, capital, apostrophe}
 use Rattle.words.specs.Words.{judge_word, word_byte}
@@ -25,16 +25,16 @@ use Rattle.runs.proofs.Laws.{apostrophe_none, last_is, but_last_is, joins_letter
 use Rattle.runs.proofs.Kept.{held_is, after_append}
 use Rattle.runs.proofs.Words.{run_good, good_last, good_held}
 
-fine_is : (c : Check) → is_fine c ≡ true → c ≡ Fine
-fine_is Fine e = refl
-fine_is (Refused g) e = never e
+fine_is : (c : Check) → is_fine c ≡ true → c ≡ Ok tt
+fine_is (Ok _) e = refl
+fine_is (Err g) e = never e
 
 -- tests of what can be held
 nothing_held : can_be_held [] ≡ true
 unfolding can_be_held
 nothing_held = refl
 
-word_held : (w : List ℕ) → judge_word word_limit w ≡ Fine → can_be_held w ≡ true
+word_held : (w : List ℕ) → judge_word word_limit w ≡ Ok tt → can_be_held w ≡ true
 unfolding can_be_held is_word
 word_held w e = rw e (go (eqb (length w) 0))
   where
@@ -42,7 +42,7 @@ word_held w e = rw e (go (eqb (length w) 0))
     go true = refl
     go false = refl
 
-marked_held : (w : List ℕ) → judge_word word_limit w ≡ Fine → can_be_held (w ++ (apostrophe ∷ [])) ≡ true
+marked_held : (w : List ℕ) → judge_word word_limit w ≡ Ok tt → can_be_held (w ++ (apostrophe ∷ [])) ≡ true
 unfolding can_be_held is_word waits
 marked_held w e = rw (last_is w apostrophe, but_last_is w apostrophe, e) (go (eqb (length (w ++ (apostrophe ∷ []))) 0) (is_fine (judge_word word_limit (w ++ (apostrophe ∷ [])))))
   where
@@ -61,7 +61,7 @@ reached_later Gone n m h e = le-leb (word_limit + 1) m (omega (arith, h, leb-tru
 reached_later GoneMarked n m h e = le-leb (word_limit + 2) m (omega (arith, h, leb-true (word_limit + 2) n e))
 
 -- what a run leaves unfinished, in a text of n bytes
-module _ (run : List ℕ) (n : ℕ) (good : length run ≤ word_limit → judge_word word_limit run ≡ Fine) where
+module _ (run : List ℕ) (n : ℕ) (good : length run ≤ word_limit → judge_word word_limit run ≡ Ok tt) where
   unfinished_reached : (rest : List ℕ) (later : Held) → length run + length rest ≤ n → is_reached later n ≡ true → is_reached (unfinished run rest later) n ≡ true
   unfolding unfinished is_reached
   unfinished_reached [] later h e = go (dec_lt word_limit (length run))
@@ -137,7 +137,7 @@ letter_byte b e = go (small b) refl (capital b) refl (eqb b apostrophe) refl e
     go false p false q true r h = omega (arith, eqb-true b apostrophe r)
     go false p false q false r h = never h
 
-bytes_word : (w : List ℕ) → judge_word word_limit w ≡ Fine → Bytes w
+bytes_word : (w : List ℕ) → judge_word word_limit w ≡ Ok tt → Bytes w
 bytes_word w e i k = letter_byte (get_or w i 0) (word_byte_lem word_limit w e i k)
 
 -- a text that leaves this held, behind as many spaces as are wanted
@@ -180,7 +180,7 @@ keep_last (b ∷ t) e =
     ∙ take-suc (b ∷ t) (length (b ∷ t) - 1) 0 (omega arith)
     ∙ ap (λ (x : ℕ). but_last (b ∷ t) ++ (x ∷ [])) l
 
-marked_after : (w : List ℕ) → judge_word word_limit w ≡ Fine → held_after (Holding []) (w ++ (apostrophe ∷ [])) ≡ Holding (w ++ (apostrophe ∷ []))
+marked_after : (w : List ℕ) → judge_word word_limit w ≡ Ok tt → held_after (Holding []) (w ++ (apostrophe ∷ [])) ≡ Holding (w ++ (apostrophe ∷ []))
 unfolding held_after next
 marked_after w e = after_append (Holding []) w (apostrophe ∷ []) ∙ rw (good_held w e, apostrophe_none, joins_letter w apostrophe (good_last w e))
 

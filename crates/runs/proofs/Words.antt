@@ -10,7 +10,7 @@ use lib.Dec.{eqb}
 use lib.ListN.{length, take, get_or-eq_default}
 use lib.Seq.{take-length, drop-length}
 use Rattle.base.specs.Limits.{word_limit}
-use Rattle.base.specs.declared.Check.TheVariants.{Fine}
+use Rattle.std.specs.Prelude.{Ok, Err}
 use Rattle.base.proofs.Lists.{never}
 use Rattle.words.specs.Symbols.{letter, apostrophe}
 use Rattle.words.specs.Words.{starts_letter, is_between, with_apostrophes, leading, all_fit, judge_by, judge_word, MayStand}
@@ -38,22 +38,22 @@ rule_take after b u e = go (letter b) refl (eqb b apostrophe) after (starts_lett
     go false p true false s q h = never h
     go false p false z s q h = never h
 
-lead_fits : (at : ℕ) (after : Bool) (t : List ℕ) → all_fit with_apostrophes at after (take (leading with_apostrophes after t) t) ≡ Fine
+lead_fits : (at : ℕ) (after : Bool) (t : List ℕ) → all_fit with_apostrophes at after (take (leading with_apostrophes after t) t) ≡ Ok tt
 unfolding all_fit leading
 lead_fits at after [] = refl
 lead_fits at after (b ∷ t) = go (with_apostrophes after b t) refl (lead_fits (at + 1) (letter b) t)
   where
-    go : (z : Bool) → with_apostrophes after b t ≡ z → all_fit with_apostrophes (at + 1) (letter b) (take (leading with_apostrophes (letter b) t) t) ≡ Fine
-        → all_fit with_apostrophes at after (take (cond z (suc (leading with_apostrophes (letter b) t)) 0) (b ∷ t)) ≡ Fine
+    go : (z : Bool) → with_apostrophes after b t ≡ z → all_fit with_apostrophes (at + 1) (letter b) (take (leading with_apostrophes (letter b) t) t) ≡ Ok tt
+        → all_fit with_apostrophes at after (take (cond z (suc (leading with_apostrophes (letter b) t)) 0) (b ∷ t)) ≡ Ok tt
     go true p next = rw (rule_take after b t p) next
     go false p next = refl
 
-first_fits : (b : ℕ) (t : List ℕ) → letter b ≡ true → all_fit with_apostrophes 0 false (b ∷ take (onward t) t) ≡ Fine
+first_fits : (b : ℕ) (t : List ℕ) → letter b ≡ true → all_fit with_apostrophes 0 false (b ∷ take (onward t) t) ≡ Ok tt
 unfolding all_fit with_apostrophes
 first_fits b t e = rw e (lead_fits 1 true t)
 
 -- A word of a text is one that the hyphenating call takes.
-pub run_good : (b : ℕ) (t : List ℕ) → letter b ≡ true → length (b ∷ take (onward t) t) ≤ word_limit → judge_word word_limit (b ∷ take (onward t) t) ≡ Fine
+pub run_good : (b : ℕ) (t : List ℕ) → letter b ≡ true → length (b ∷ take (onward t) t) ≤ word_limit → judge_word word_limit (b ∷ take (onward t) t) ≡ Ok tt
 unfolding judge_by
 run_good b t e h = rw (← length_fine word_limit (length (b ∷ take (onward t) t)) (λ z. omega (arith, z)) h) (first_fits b t e)
 
@@ -70,7 +70,7 @@ good_first b t e = go (letter b) refl e
         none true h = absurd (omega (arith, h))
         none false h = absurd (omega (arith, h))
 
-pub good_last : (w : List ℕ) → judge_word word_limit w ≡ Fine → letter (last_of w) ≡ true
+pub good_last : (w : List ℕ) → judge_word word_limit w ≡ Ok tt → letter (last_of w) ≡ true
 good_last w e = go ((word_exactly word_limit w).0 e)
   where
     go : (1 ≤ length w) × (length w ≤ word_limit) × ((i : ℕ) → i < length w → MayStand w i) → letter (last_of w) ≡ true
@@ -83,7 +83,7 @@ good_last w e = go ((word_exactly word_limit w).0 e)
             never (sym zero_none ∙ ap letter (sym (get_or-eq_default w 0 n)) ∙ behind)
 
 -- A text that is a word is held whole.
-pub good_held : (w : List ℕ) → judge_word word_limit w ≡ Fine → held_after (Holding []) w ≡ Holding w
+pub good_held : (w : List ℕ) → judge_word word_limit w ≡ Ok tt → held_after (Holding []) w ≡ Holding w
 unfolding held_of unfinished
 good_held [] e = absurd (omega (arith, word_some word_limit [] e))
 good_held (b ∷ t) e =

@@ -1,8 +1,7 @@
 -- CR 6: "A state these calls couldn't leave is read as a new text's". What can be held, and after how many bytes.
-use Rattle.std.specs.Prelude.{ℕ, ◌+◌, ◌<◌, Bool, true, false, ◌&&◌, ◌||◌, List, [], ◌≡◌, leb, eqb, length, get_or}
+use Rattle.std.specs.Prelude.{ℕ, ◌+◌, ◌<◌, Bool, true, false, ◌&&◌, ◌||◌, List, [], ◌≡◌, leb, eqb, length, get_or, is_ok}
 use Rattle.base.specs.Limits.{word_limit}
-use Rattle.base.specs.declared.Check.{Check}
-use Rattle.base.specs.declared.Check.TheVariants.{Fine, Refused}
+use Rattle.base.specs.Grounds.{Check}
 use Rattle.words.specs.Words.{judge_word}
 use Rattle.runs.specs.Text.{Held, Holding, Gone, GoneMarked}
 use Rattle.runs.specs.Held.{but_last, waits, held_after}
@@ -16,8 +15,7 @@ pub record Reached (s : Held) (total : ℕ) : Type 0 where
 
 -- The same as it is tested. A word is what the hyphenating call takes for one.
 abbrev pub is_fine : Check → Bool
-is_fine Fine = true
-is_fine (Refused g) = false
+is_fine judged = is_ok judged
 
 unfoldable pub is_word : List ℕ → Bool
 is_word w = is_fine (judge_word word_limit w)

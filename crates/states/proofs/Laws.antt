@@ -12,9 +12,8 @@ use lib.Seq.{take_all}
 use Rattle.std.specs.Prelude.{IsTrue, EachIndex, slice_index}
 use native.Mathlib.Omega.{arith}
 use Rattle.base.specs.Limits.{word_limit, running_text}
-use Rattle.base.specs.declared.Check.{Check}
-use Rattle.base.specs.declared.Check.TheVariants.{Fine, Refused}
-use Rattle.base.specs.declared.Ground.{Ground}
+use Rattle.base.specs.Grounds.{Check}
+use Rattle.std.specs.Prelude.{is_ok}
 use lib.Dec.{eqb}
 use Rattle.base.proofs.Lists.{both, test_iff}
 use Rattle.words.specs.Symbols.{apostrophe}
@@ -52,13 +51,9 @@ pub zeros_behind : (held : List ℕ) (size : ℕ) {z : Bool} → z ≡ all_zero 
 zeros_behind held size e = e ∙ ap all_zero (take_all (length held - size) (drop size held) (omega (arith, length-drop size held)))
 
 -- words
-pub word_yes : (w : List ℕ) {c : Check} → c ≡ judge_word word_limit w → c ≡ Fine → true ≡ is_word w
+pub word_as_judged : (w : List ℕ) {c : Check} → c ≡ judge_word word_limit w → is_ok c ≡ is_word w
 unfolding is_word
-word_yes w e f = rw (← e, f)
-
-pub word_not : (w : List ℕ) {c : Check} {g : Ground} → c ≡ judge_word word_limit w → c ≡ Refused g → false ≡ is_word w
-unfolding is_word
-word_not w e f = rw (← e, f)
+word_as_judged w e = ap is_ok e
 
 -- what can be held
 pub held_none : (kept : List ℕ) → length kept ≡ 0 → true ≡ can_be_held kept

@@ -8,8 +8,6 @@ ghost use Rattle.runs.specs.Reached.{is_word, can_be_held, is_reached};
 ghost use Rattle.states.specs.Bytes.{head_size, state_size, total_of, of_bytes, state_bytes};
 ghost use Rattle.states.specs.State.{state_of, all_zero, is_gone, are_left, is_left, Reads};
 
-use base::Check;
-
 // How a run stands between two calls (specs/State.antt, run_of).
 pub const HOLDING: u8 = 0;
 
@@ -54,11 +52,7 @@ fn are_zero(bytes: &[u8]) -> bool
 fn is_word(bytes: &[u8]) -> bool
     ensures { result ≡ is_word bytes.now }
 {
-    let judged = words::judge_word(bytes, base::WORD_LIMIT);
-    match judged {
-        Check::Fine => true,
-        Check::Refused(_) => false,
-    }
+    words::judge_word(bytes, base::WORD_LIMIT).is_ok()
 }
 
 // Nothing, a word, or a word and an apostrophe behind it.

@@ -9,12 +9,10 @@ use lib.Dec.{eqb}
 use lib.ListN.{length, get_or, set, take, drop, length-drop, drop_of_length-le, get_or-eq_default}
 use lib.Seq.{take_all, take-nil, set_out}
 use Rattle.base.specs.Limits.{cell_limit, entry_limit}
-use Rattle.base.specs.declared.Check.TheVariants.{Fine, Refused}
+use Rattle.std.specs.Prelude.{Ok, Err, None}
 use Rattle.base.specs.declared.Ground.TheVariants.{TableForm}
-use Rattle.table.specs.Table.{head_kind, edition, head_size, cell_size, number_at, put_number, cell_count, entry_count, formed, judge_table, cells_from, entries_from, behind, cells_of, entries_of, cells_place, entries_place, look, entry_at}
+use Rattle.table.specs.Table.{head_kind, edition, head_size, cell_size, number_at, put_number, cell_count, entry_count, formed, judge_table, cells_from, entries_from, behind, cells_of, entries_of, cells_place, entries_place, look, entry_at, hit, has}
 use Rattle.table.specs.Records.{two_bytes, head_bytes}
-use Rattle.table.specs.declared.Look.TheVariants.{Hit, Miss}
-use Rattle.table.specs.declared.Entry.TheVariants.{Has, Stop}
 
 pub number_is : (t : List ℕ) (at : ℕ) → 256 * get_or t at 0 + get_or t (at + 1) 0 ≡ number_at t at
 unfolding number_at
@@ -50,35 +48,35 @@ unfolding entry_count
 entries_told t e = e
 
 -- ground 9, in the order in which the code asks
-pub short_table : (t : List ℕ) → length t < 6 → Refused TableForm ≡ judge_table t
+pub short_table : (t : List ℕ) → length t < 6 → Err TableForm ≡ judge_table t
 unfolding judge_table formed
 short_table t h = rw (lt-leb 6 (length t) h)
 
 module _ (t : List ℕ) (h : 6 ≤ length t) where
-  pub wrong_kind : (get_or t 0 0 ≡ 1 → ⊥) → Refused TableForm ≡ judge_table t
+  pub wrong_kind : (get_or t 0 0 ≡ 1 → ⊥) → Err TableForm ≡ judge_table t
   unfolding judge_table formed
   wrong_kind a = rw (le-leb 6 (length t) h, ne_eqb (get_or t 0 0) 1 a)
 
   module _ (a : get_or t 0 0 ≡ 1) where
-    pub wrong_edition : (get_or t 1 0 ≡ 1 → ⊥) → Refused TableForm ≡ judge_table t
+    pub wrong_edition : (get_or t 1 0 ≡ 1 → ⊥) → Err TableForm ≡ judge_table t
     unfolding judge_table formed
     wrong_edition b = rw (le-leb 6 (length t) h, eq-eqb (get_or t 0 0) 1 a, ne_eqb (get_or t 1 0) 1 b)
 
     module _ (b : get_or t 1 0 ≡ 1) {c : ℕ} (p : c ≡ number_at t 2) where
-      pub no_cells : c < 1 → Refused TableForm ≡ judge_table t
+      pub no_cells : c < 1 → Err TableForm ≡ judge_table t
       unfolding judge_table formed cell_count
       no_cells l = rw (le-leb 6 (length t) h, eq-eqb (get_or t 0 0) 1 a, eq-eqb (get_or t 1 0) 1 b, ← p, lt-leb 1 c l)
 
-      pub many_cells : 1 ≤ c → cell_limit < c → Refused TableForm ≡ judge_table t
+      pub many_cells : 1 ≤ c → cell_limit < c → Err TableForm ≡ judge_table t
       unfolding judge_table formed cell_count
       many_cells l m = rw (le-leb 6 (length t) h, eq-eqb (get_or t 0 0) 1 a, eq-eqb (get_or t 1 0) 1 b, ← p, le-leb 1 c l, lt-leb c cell_limit m)
 
       module _ (l : 1 ≤ c) (m : c ≤ cell_limit) {e : ℕ} (q : e ≡ number_at t 4) where
-        pub many_entries : entry_limit < e → Refused TableForm ≡ judge_table t
+        pub many_entries : entry_limit < e → Err TableForm ≡ judge_table t
         unfolding judge_table formed cell_count entry_count
         many_entries k = rw (le-leb 6 (length t) h, eq-eqb (get_or t 0 0) 1 a, eq-eqb (get_or t 1 0) 1 b, ← p, le-leb 1 c l, le-leb c cell_limit m, ← q, lt-leb e entry_limit k)
 
-        pub wrong_length : e ≤ entry_limit → (length t ≡ 6 + 6 * c + 5 * e → ⊥) → Refused TableForm ≡ judge_table t
+        pub wrong_length : e ≤ entry_limit → (length t ≡ 6 + 6 * c + 5 * e → ⊥) → Err TableForm ≡ judge_table t
         unfolding judge_table formed cell_count entry_count
         wrong_length k d =
             rw (
@@ -93,7 +91,7 @@ module _ (t : List ℕ) (h : 6 ≤ length t) where
               ne_eqb (length t) (6 + 6 * c + 5 * e) d,
             )
 
-        pub fine_table : e ≤ entry_limit → length t ≡ 6 + 6 * c + 5 * e → Fine ≡ judge_table t
+        pub fine_table : e ≤ entry_limit → length t ≡ 6 + 6 * c + 5 * e → (Ok tt) ≡ judge_table t
         unfolding judge_table formed cell_count entry_count
         fine_table k d =
             rw (
@@ -192,39 +190,39 @@ head_put c e (x ∷ x₁ ∷ x₂ ∷ x₃ ∷ x₄ ∷ x₅ ∷ room) h = refl
 
 -- one look
 module _ (t : List ℕ) (n s : ℕ) where
-  pub look_past : length t < 6 * n + 6 → Miss ≡ look t n s
+  pub look_past : length t < 6 * n + 6 → None ≡ look t n s
   unfolding look
   look_past h = rw (lt-leb (6 * n + 6) (length t) h)
 
   module _ (h : 6 * n + 6 ≤ length t) where
-    pub look_kind : (get_or t (6 * n) 0 ≡ 2 → ⊥) → Miss ≡ look t n s
+    pub look_kind : (get_or t (6 * n) 0 ≡ 2 → ⊥) → None ≡ look t n s
     unfolding look
     look_kind k = rw (le-leb (6 * n + 6) (length t) h, ne_eqb (get_or t (6 * n) 0) 2 k)
 
-    pub look_other : (get_or t (6 * n + 1) 0 ≡ s → ⊥) → Miss ≡ look t n s
+    pub look_other : (get_or t (6 * n + 1) 0 ≡ s → ⊥) → None ≡ look t n s
     unfolding look
     look_other d = rw (le-leb (6 * n + 6) (length t) h, ne_eqb (get_or t (6 * n + 1) 0) s d, and-false (eqb (get_or t (6 * n) 0) 2))
 
-    pub look_hit : get_or t (6 * n) 0 ≡ 2 → get_or t (6 * n + 1) 0 ≡ s → {l o : ℕ} → l ≡ number_at t (6 * n + 2) → o ≡ number_at t (6 * n + 4) → Hit l o ≡ look t n s
+    pub look_hit : get_or t (6 * n) 0 ≡ 2 → get_or t (6 * n + 1) 0 ≡ s → {l o : ℕ} → l ≡ number_at t (6 * n + 2) → o ≡ number_at t (6 * n + 4) → hit l o ≡ look t n s
     unfolding look
     look_hit k d p q = rw (le-leb (6 * n + 6) (length t) h, eq-eqb (get_or t (6 * n) 0) 2 k, eq-eqb (get_or t (6 * n + 1) 0) s d, ← p, ← q)
 
 -- one entry
 module _ (t : List ℕ) (k : ℕ) where
-  pub entry_none : k < 1 → Stop ≡ entry_at t k
+  pub entry_none : k < 1 → None ≡ entry_at t k
   unfolding entry_at
   entry_none h = rw (lt-leb 1 k h)
 
   module _ (h : 1 ≤ k) where
-    pub entry_past : length t < 5 * k → Stop ≡ entry_at t k
+    pub entry_past : length t < 5 * k → None ≡ entry_at t k
     unfolding entry_at
     entry_past l = rw (le-leb 1 k h, lt-leb (5 * k) (length t) l)
 
     module _ (l : 5 * k ≤ length t) where
-      pub entry_kind_lem : (get_or t (5 * k - 5) 0 ≡ 3 → ⊥) → Stop ≡ entry_at t k
+      pub entry_kind_lem : (get_or t (5 * k - 5) 0 ≡ 3 → ⊥) → None ≡ entry_at t k
       unfolding entry_at
       entry_kind_lem d = rw (le-leb 1 k h, le-leb (5 * k) (length t) l, ne_eqb (get_or t (5 * k - 5) 0) 3 d)
 
-      pub entry_has : get_or t (5 * k - 5) 0 ≡ 3 → {n : ℕ} → n ≡ number_at t (5 * k - 2) → Has (get_or t (5 * k - 4) 0) (get_or t (5 * k - 3) 0) n ≡ entry_at t k
+      pub entry_has : get_or t (5 * k - 5) 0 ≡ 3 → {n : ℕ} → n ≡ number_at t (5 * k - 2) → has (get_or t (5 * k - 4) 0) (get_or t (5 * k - 3) 0) n ≡ entry_at t k
       unfolding entry_at
       entry_has d p = rw (le-leb 1 k h, le-leb (5 * k) (length t) l, eq-eqb (get_or t (5 * k - 5) 0) 3 d, ← p)

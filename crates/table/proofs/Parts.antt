@@ -8,13 +8,13 @@ use borrow.Author.Tests.{eqb-true, not-false}
 use lib.Dec.{eqb}
 use lib.ListN.{length, drop, length-drop}
 use lib.Seq.{length-take-le}
-use Rattle.base.specs.declared.Check.TheVariants.{Fine}
+use Rattle.std.specs.Prelude.{Ok}
 use Rattle.base.specs.declared.Ground.TheVariants.{TableForm}
 use Rattle.base.proofs.Grounds.{not_refused}
 use Rattle.base.proofs.Lists.{never}
 use Rattle.table.specs.Table.{head_size, cell_size, entry_size, cell_count, entry_count, formed, judge_table, cells_from, entries_from, cells_of, entries_of}
 
-module _ (table : List ℕ) (fine : judge_table table ≡ Fine) where
+module _ (table : List ℕ) (fine : judge_table table ≡ Ok tt) where
   table_length : length table ≡ head_size + cell_size * cell_count table + entry_size * entry_count table
   unfolding judge_table formed
   table_length = go (eqb (length table) (head_size + cell_size * cell_count table + entry_size * entry_count table)) refl

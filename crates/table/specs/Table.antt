@@ -1,13 +1,10 @@
 -- The packed table as document 01 lays it out on bytes.
-use Rattle.std.specs.Prelude.{ℕ, ◌+◌, ◌*◌, ◌-◌, ◌/◌, ◌%◌, Bool, cond, not, ◌&&◌, List, [], ◌∷◌, leb, ltb, eqb, length, get_or, set, take, drop}
+use Rattle.std.specs.Prelude.{ℕ, ◌+◌, ◌*◌, ◌-◌, ◌/◌, ◌%◌, Bool, cond, not, ◌&&◌, List, [], ◌∷◌, leb, ltb, eqb, length, get_or, set, take, drop, Option, Some, None}
 use Rattle.base.specs.Limits.{cell_limit, entry_limit}
-use Rattle.base.specs.Grounds.{Row, on, refuse_if}
-use Rattle.base.specs.declared.Check.{Check}
+use Rattle.base.specs.Grounds.{Row, on, refuse_if, Check}
 use Rattle.base.specs.declared.Ground.TheVariants.{TableForm}
-use Rattle.table.specs.declared.Look.{Look}
-use Rattle.table.specs.declared.Look.TheVariants.{Hit, Miss}
+use Rattle.table.specs.declared.Cell.{Cell}
 use Rattle.table.specs.declared.Entry.{Entry}
-use Rattle.table.specs.declared.Entry.TheVariants.{Has, Stop}
 
 -- "Records are one byte of kind, then a body whose length the kind fixes": a head of kind 1 with 5 bytes of body, cells of
 -- kind 2 with 5, entries of kind 3 with 4. The sizes here include the byte of kind.
@@ -101,17 +98,27 @@ cells_place table at = behind head_size table at
 unfoldable pub entries_place : List ℕ → ℕ × ℕ → ℕ × ℕ
 entries_place table at = behind (head_size + cell_size * cell_count table) table at
 
+-- What a look at a cell finds: the cell's link and output, or nothing.
+abbrev pub Look : Type 0
+Look = Option Cell
+
+abbrev pub hit : ℕ → ℕ → Look
+hit link output = Some (record { link = link; output = output })
+
 -- One look at a cell: "It matches if it exists, is of kind 2 and holds this very symbol."
 unfoldable pub look : List ℕ → ℕ → ℕ → Look
 look bytes n symbol =
     cond (leb (cell_size * n + cell_size) (length bytes) && (eqb (get_or bytes (cell_size * n) 0) cell_kind && eqb (get_or bytes (cell_size * n + 1) 0) symbol))
-    (Hit (number_at bytes (cell_size * n + 2)) (number_at bytes (cell_size * n + 4)))
-    Miss
+    (hit (number_at bytes (cell_size * n + 2)) (number_at bytes (cell_size * n + 4)))
+    None
+
+abbrev pub has : ℕ → ℕ → ℕ → Option Entry
+has distance level next = Some (record { distance = distance; level = level; next = next })
 
 -- Entry k of a chain: "0 is none"; "a number over E or a kind other than 3 ends the chain with nothing from it". Entries are
 -- numbered from 1.
-unfoldable pub entry_at : List ℕ → ℕ → Entry
+unfoldable pub entry_at : List ℕ → ℕ → Option Entry
 entry_at bytes k =
     cond (leb 1 k && (leb (entry_size * k) (length bytes) && eqb (get_or bytes (entry_size * k - 5) 0) entry_kind))
-    (Has (get_or bytes (entry_size * k - 4) 0) (get_or bytes (entry_size * k - 3) 0) (number_at bytes (entry_size * k - 2)))
-    Stop
+    (has (get_or bytes (entry_size * k - 4) 0) (get_or bytes (entry_size * k - 3) 0) (number_at bytes (entry_size * k - 2)))
+    None

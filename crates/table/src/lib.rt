@@ -6,7 +6,7 @@ ghost use Rattle.base.specs.Grounds.{Finds, says, first_of};
 ghost use Rattle.table.specs.Records.{head_bytes};
 ghost use Rattle.table.specs.Table.{head_size, cell_size, number_at, put_number, cell_count, entry_count, table_grounds, behind, cells_from, entries_from, cells_of, entries_of, cells_place, entries_place, look, entry_at};
 
-use base::{Check, Ground};
+use base::Ground;
 
 // The records of a table as document 01 lays them out, each with its byte of kind. specs/Table.antt has the same names.
 pub const HEAD_KIND: u8 = 1;
@@ -31,18 +31,19 @@ pub const ENTRY_ROOM: usize = ENTRY_SIZE * base::ENTRY_LIMIT;
 // Where a walk begins.
 pub const ROOT_BASE: u16 = 0;
 
-// What a look at a cell finds.
+// What a look finds in a cell: where it leads, and the first of its entries.
 #[derive(Clone, Copy)]
-pub enum Look {
-    Hit { link: u16, output: u16 },
-    Miss,
+pub struct Cell {
+    pub link: u16,
+    pub output: u16,
 }
 
-// What stands under an entry's number.
+// One entry of a chain, and the number of the next.
 #[derive(Clone, Copy)]
-pub enum Entry {
-    Has { distance: u8, level: u8, next: u16 },
-    Stop,
+pub struct Entry {
+    pub distance: u8,
+    pub level: u8,
+    pub next: u16,
 }
 
 // A number of two bytes of which both are there.
@@ -54,33 +55,33 @@ fn number_in(bytes: &[u8], at: usize) -> u16
 }
 
 // Ground 9.
-pub fn judge_table(table: &[u8]) -> Check
+pub fn judge_table(table: &[u8]) -> Result<(), Ground>
     ensures { says result ≡ first_of (Finds []) (table_grounds table.now) }
 {
     if table.len() < HEAD_SIZE {
-        return Check::Refused(Ground::TableForm);
+        return Err(Ground::TableForm);
     }
     if table[0] != HEAD_KIND {
-        return Check::Refused(Ground::TableForm);
+        return Err(Ground::TableForm);
     }
     if table[1] != EDITION {
-        return Check::Refused(Ground::TableForm);
+        return Err(Ground::TableForm);
     }
     let cells = number_in(table, 2) as usize;
     if cells < 1 {
-        return Check::Refused(Ground::TableForm);
+        return Err(Ground::TableForm);
     }
     if base::CELL_LIMIT < cells {
-        return Check::Refused(Ground::TableForm);
+        return Err(Ground::TableForm);
     }
     let entries = number_in(table, 4) as usize;
     if base::ENTRY_LIMIT < entries {
-        return Check::Refused(Ground::TableForm);
+        return Err(Ground::TableForm);
     }
     if table.len() != HEAD_SIZE + CELL_SIZE * cells + ENTRY_SIZE * entries {
-        return Check::Refused(Ground::TableForm);
+        return Err(Ground::TableForm);
     }
-    Check::Fine
+    Ok(())
 }
 
 // A byte, or 0 past the end.
@@ -190,45 +191,45 @@ pub fn put_head(room: &mut [u8], cells: u16, entries: u16)
 }
 
 // The look at the cell numbered base + symbol. Most looks miss by the symbol, so it is asked first.
-pub fn look_at(cells: &[u8], base: u16, symbol: u8) -> Look
+pub fn look_at(cells: &[u8], base: u16, symbol: u8) -> Option<Cell>
     ensures { result ≡ look cells.now (base + symbol) symbol }
 {
     let at = CELL_SIZE * (base as usize + symbol as usize);
     if cells.len() < CELL_SIZE {
-        return Look::Miss;
+        return None;
     }
     if cells.len() - CELL_SIZE < at {
-        return Look::Miss;
+        return None;
     }
     if cells[at + 1] != symbol {
-        return Look::Miss;
+        return None;
     }
     if cells[at] != CELL_KIND {
-        return Look::Miss;
+        return None;
     }
-    Look::Hit {
+    Some(Cell {
         link: number_in(cells, at + 2),
         output: number_in(cells, at + 4),
-    }
+    })
 }
 
 // The entry numbered k.
-pub fn entry_at(entries: &[u8], k: u16) -> Entry
+pub fn entry_at(entries: &[u8], k: u16) -> Option<Entry>
     ensures { result ≡ entry_at entries.now k }
 {
     if k < 1 {
-        return Entry::Stop;
+        return None;
     }
     let end = ENTRY_SIZE * (k as usize);
     if entries.len() < end {
-        return Entry::Stop;
+        return None;
     }
     if entries[end - ENTRY_SIZE] != ENTRY_KIND {
-        return Entry::Stop;
+        return None;
     }
-    Entry::Has {
+    Some(Entry {
         distance: entries[end - 4],
         level: entries[end - 3],
         next: number_in(entries, end - 2),
-    }
+    })
 }

@@ -1,15 +1,12 @@
 -- What a table's paths reach, and tables that agree on all of it: "Unreached cells and entries may hold anything in their bodies."
-use Rattle.std.specs.Prelude.{ℕ, ◌+◌, ◌*◌, ◌-◌, ◌<◌, List, [], ◌∷◌, ◌⊎◌, ◌≡◌, length, get_or}
-use Rattle.table.specs.Table.{head_size, cell_size, entry_size, cells_of, entries_of, look, entry_at}
-use Rattle.table.specs.declared.Look.{Look}
-use Rattle.table.specs.declared.Look.TheVariants.{Hit, Miss}
-use Rattle.table.specs.declared.Entry.TheVariants.{Has}
+use Rattle.std.specs.Prelude.{ℕ, ◌+◌, ◌*◌, ◌-◌, ◌<◌, List, [], ◌∷◌, ◌⊎◌, ◌≡◌, length, get_or, Some, None}
+use Rattle.table.specs.Table.{head_size, cell_size, entry_size, cells_of, entries_of, look, entry_at, Look, hit, has}
 use Rattle.trie.specs.Paths.{Path}
 
 -- The link of a cell that matches.
 abbrev pub link_of : Look → ℕ
-link_of Miss = 0
-link_of (Hit link output) = link
+link_of None = 0
+link_of (Some found) = found.link
 
 -- The number of the cell that a string of symbols ends in, from a base: "Look at the cell numbered base + symbol", "go on with the
 -- next symbol and base = link".
@@ -27,8 +24,8 @@ pub record CellReached (cells : List ℕ) (root n : ℕ) : Type 0 where
 -- Entry n stands on the chain that begins with number k. "0 ends it"; "a number over E or a kind other than 3 ends the chain with
 -- nothing from it"; "a next not lower ends the chain after this entry".
 pub data OnChain (entries : List ℕ) : ℕ → ℕ → Type 0 where
-  here : {k distance level next : ℕ} → entry_at entries k ≡ Has distance level next → OnChain entries k k
-  later : {k n distance level next : ℕ} → entry_at entries k ≡ Has distance level next → next < k → OnChain entries next n → OnChain entries k n
+  here : {k distance level next : ℕ} → entry_at entries k ≡ has distance level next → OnChain entries k k
+  later : {k n distance level next : ℕ} → entry_at entries k ≡ has distance level next → next < k → OnChain entries next n → OnChain entries k n
 
 -- An entry is reached where it stands on the chain of a path's output.
 pub record EntryReached (cells entries : List ℕ) (root n : ℕ) : Type 0 where

@@ -1,17 +1,16 @@
 -- Chains of entries without a fault.
-use Rattle.std.specs.Prelude.{ℕ, zero, suc, Bool, true, false, cond, ◌&&◌, List, leb, ltb, eqb}
+use Rattle.std.specs.Prelude.{ℕ, zero, suc, Bool, true, false, cond, ◌&&◌, List, leb, ltb, eqb, Some, None, Option}
 use Rattle.base.specs.Limits.{level_limit}
-use Rattle.table.specs.Table.{entry_at}
 use Rattle.table.specs.declared.Entry.{Entry}
-use Rattle.table.specs.declared.Entry.TheVariants.{Has, Stop}
+use Rattle.table.specs.Table.{entry_at, has}
 
 -- "no chain reached shows a fault just listed": a number over E or a kind other than 3, a level outside 1 to 9, a distance over
 -- the path's length m, a next not lower. `go` is the chain from a number on.
-unfoldable pub sound_step : (ℕ → Bool) → ℕ → ℕ → Entry → Bool
-sound_step go m k Stop = false
-sound_step go m k (Has distance level next) =
-    let rest = go next in
-    (leb 1 level && leb level level_limit) && (leb distance m && (ltb next k && rest))
+unfoldable pub sound_step : (ℕ → Bool) → ℕ → ℕ → Option Entry → Bool
+sound_step go m k None = false
+sound_step go m k (Some entry) =
+    let rest = go entry.next in
+    (leb 1 entry.level && leb entry.level level_limit) && (leb entry.distance m && (ltb entry.next k && rest))
 
 -- A chain without a fault; 0 is none. Its first number bounds its length.
 unfoldable pub sound_from : List ℕ → ℕ → ℕ → ℕ → Bool

@@ -1,14 +1,11 @@
 -- How an answer stands in the 64 bits that a C function returns. include/tteolmigu.h says the same to a reader of C.
-use Rattle.std.specs.Prelude.{ℕ, ◌+◌, ◌*◌, ◌-◌, ◌/◌, ◌%◌, ◌^◌, List, get_or}
+use Rattle.std.specs.Prelude.{ℕ, ◌+◌, ◌*◌, ◌-◌, ◌/◌, ◌%◌, ◌^◌, List, get_or, Ok, Err}
 use Rattle.base.specs.Limits.{customer_list, house_list}
-use Rattle.base.specs.Grounds.{told, Said, Finds, Refuses}
-use Rattle.base.specs.declared.Check.{Check}
-use Rattle.base.specs.declared.Check.TheVariants as checks
+use Rattle.base.specs.Grounds.{told, Said, Finds, Refuses, Check}
 use Rattle.base.specs.declared.Ground.{Ground}
 use Rattle.lookup.specs.declared.Located.{Located}
 use Rattle.lookup.specs.declared.Located.TheVariants.{Customer, House, Nowhere}
-use Rattle.hyphenation.specs.declared.Answer.{Answer}
-use Rattle.hyphenation.specs.declared.Answer.TheVariants as answers
+use Rattle.hyphenation.specs.Calls.{Answer, found}
 use Rattle.states.specs.Bytes.{state_bytes}
 use Rattle.states.specs.declared.TextState.{TextState}
 use Rattle.running.specs.declared.TextAnswer.{TextAnswer}
@@ -36,8 +33,8 @@ abbrev pub line_bits : ℕ → ℕ → ℕ → ℕ
 line_bits list start end = bits_at 48 8 list + bits_at 16 32 start + bits_at 0 16 (end - start)
 
 abbrev pub answer_bits : Answer → ℕ
-answer_bits (answers.Found marks looks) = found_bits marks looks
-answer_bits (answers.Refused g) = refusal_bits g
+answer_bits (Ok f) = found_bits f.marks f.looks
+answer_bits (Err g) = refusal_bits g
 
 -- Pack: bits 0 to 47 the length.
 abbrev pub packing_bits : Packing → ℕ

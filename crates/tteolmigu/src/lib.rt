@@ -13,7 +13,7 @@ ghost use Rattle.states.specs.Bytes.{of_bytes};
 ghost use Rattle.running.specs.Calls.{piece_answer, piece_next, piece_room, end_answer, end_next, end_room};
 ghost use Rattle.tteolmigu.specs.Bits.{bits_at, told_bits, refusal_bits, found_bits, line_bits, answer_bits, packing_bits, check_bits, located_bits, fitting_bits, fit_bits, reprint_bits, bits1980, written_bits, text_bits, bytes_left};
 
-use base::{Check, Ground};
+use base::Ground;
 use gauge::{Fitting, Gauge};
 use hyphenation::Answer;
 use lookup::Located;
@@ -70,12 +70,12 @@ fn line_bits(list: usize, start: usize, end: usize) -> u64
     which * 281474976710656 + offset * 65536 + size
 }
 
-fn answer_bits(answer: Answer) -> u64
+fn answer_bits(answer: Result<Found, Ground>) -> u64
     ensures { result ≡ answer_bits answer }
 {
     match answer {
         Answer::Found { marks, looks } => found_bits(marks, looks),
-        Answer::Refused(g) => refusal_bits(g),
+        Err(g) => refusal_bits(g),
     }
 }
 
@@ -86,21 +86,21 @@ fn size_bits(size: usize) -> u64
     size as u64 % 281474976710656
 }
 
-fn packing_bits(packing: Packing) -> u64
+fn packing_bits(packing: Result<usize, Ground>) -> u64
     ensures { result ≡ packing_bits packing }
 {
     match packing {
-        Packing::Done(size) => size_bits(size),
-        Packing::Refused(g) => refusal_bits(g),
+        Ok(size) => size_bits(size),
+        Err(g) => refusal_bits(g),
     }
 }
 
-fn check_bits(check: Check) -> u64
+fn check_bits(check: Result<(), Ground>) -> u64
     ensures { result ≡ check_bits check }
 {
     match check {
-        Check::Fine => 0,
-        Check::Refused(g) => refusal_bits(g),
+        Ok(()) => 0,
+        Err(g) => refusal_bits(g),
     }
 }
 
@@ -123,14 +123,14 @@ fn fitting_bits(outcome: usize, gap: usize) -> u64
     code * 4294967296 + low
 }
 
-fn fit_bits(fitting: Fitting) -> u64
+fn fit_bits(fitting: Result<Fitting, Ground>) -> u64
     ensures { result ≡ fit_bits (fit_said fitting) }
 {
     match fitting {
         Fitting::Whole => fitting_bits(gauge::WHOLE_OUTCOME, 0),
         Fitting::Break(gap) => fitting_bits(gauge::BREAK_OUTCOME, gap),
         Fitting::Nowhere => fitting_bits(gauge::NONE_OUTCOME, 0),
-        Fitting::Refused(g) => refusal_bits(g),
+        Err(g) => refusal_bits(g),
     }
 }
 
@@ -144,7 +144,7 @@ fn reprint_bits(outcome: usize, breaks: usize, executed: usize) -> u64
     high * 281474976710656 + middle * 4294967296 + low
 }
 
-fn bits_1980(answer: Answer1980) -> u64
+fn bits_1980(answer: Result<Reprint, Ground>) -> u64
     ensures { result ≡ bits1980 (said1980 answer) }
 {
     match answer {
@@ -152,7 +152,7 @@ fn bits_1980(answer: Answer1980) -> u64
             reprint_bits(machine1980::ANSWERED_OUTCOME, breaks, executed)
         }
         Answer1980::RanOut => reprint_bits(machine1980::RAN_OUT_OUTCOME, 0, 0),
-        Answer1980::Refused(g) => refusal_bits(g),
+        Err(g) => refusal_bits(g),
     }
 }
 
@@ -177,7 +177,7 @@ fn put_taken(taken: Taken, state: &mut [u8; states::STATE_SIZE]) -> u64
             states::put_bytes(next, state);
             written_bits(length, looks)
         }
-        TextAnswer::Refused(g) => refusal_bits(g),
+        Err(g) => refusal_bits(g),
     }
 }
 

@@ -2,7 +2,6 @@
 // and place; what the system refused, and how it is called, it tells on standard error.
 #![tactic(auto)]
 
-use base::Check;
 use console::Stream;
 
 // How many files the arguments name.
@@ -10,7 +9,7 @@ const FILES: usize = 2;
 
 // What the checker says.
 fn print_check(rt: &HostRuntime, patterns: &[u8], table: &[u8]) {
-    if let Check::Refused(g) = checker::check(patterns, table) {
+    if let Err(g) = checker::check(patterns, table) {
         console::print_refusal(rt, b"verify", Stream::Output, g);
         return;
     }

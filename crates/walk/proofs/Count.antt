@@ -9,19 +9,18 @@ use native.Mathlib.Omega.{arith}
 use lib.Dec.{eqb}
 use lib.ListN.{length, drop}
 use Rattle.base.specs.Limits.{pattern_limit}
-use Rattle.table.specs.Table.{look}
-use Rattle.table.specs.declared.Look.{Look}
-use Rattle.table.specs.declared.Look.TheVariants.{Hit, Miss}
+use Rattle.table.specs.Table.{look, Look}
+use Rattle.std.specs.Prelude.{Some, None}
 use Rattle.walk.specs.Walk.{look_step, looks_from, match_step, matches_from, looks, sum_to}
 
 step_few : (go : ℕ → ℕ) (left : ℕ) → ((link : ℕ) → go link ≤ left) → (l : Look) → look_step go l ≤ suc left
 unfolding look_step
-step_few go left h Miss = omega arith
-step_few go left h (Hit link output) = pick (eqb link 0)
+step_few go left h None = omega arith
+step_few go left h (Some found) = pick (eqb found.link 0)
   where
-    pick : (z : Bool) → 1 + cond z 0 (go link) ≤ suc left
+    pick : (z : Bool) → 1 + cond z 0 (go found.link) ≤ suc left
     pick true = omega arith
-    pick false = omega (arith, h link)
+    pick false = omega (arith, h found.link)
 
 pub walk_few : (cells : List ℕ) (left base : ℕ) (row : List ℕ) → looks_from cells left base row ≤ left
 unfolding looks_from
@@ -37,11 +36,11 @@ looks_few cells root (s ∷ row) = omega (arith, walk_few cells pattern_limit ro
 -- "and looks at m or m + 1 cells", where m symbols match: one more where a mismatch ends the walk
 step_or : (f g : ℕ → ℕ) → ((link : ℕ) → (f link ≡ g link) ⊎ (f link ≡ suc (g link))) → (l : Look) → (look_step f l ≡ match_step g l) ⊎ (look_step f l ≡ suc (match_step g l))
 unfolding look_step match_step
-step_or f g h Miss = inr refl
-step_or f g h (Hit link output) = pick (eqb link 0) (h link)
+step_or f g h None = inr refl
+step_or f g h (Some found) = pick (eqb found.link 0) (h found.link)
   where
-    pick : (z : Bool) → (f link ≡ g link) ⊎ (f link ≡ suc (g link))
-        → (1 + cond z 0 (f link) ≡ 1 + cond z 0 (g link)) ⊎ (1 + cond z 0 (f link) ≡ suc (1 + cond z 0 (g link)))
+    pick : (z : Bool) → (f found.link ≡ g found.link) ⊎ (f found.link ≡ suc (g found.link))
+        → (1 + cond z 0 (f found.link) ≡ 1 + cond z 0 (g found.link)) ⊎ (1 + cond z 0 (f found.link) ≡ suc (1 + cond z 0 (g found.link)))
     pick true r = inl refl
     pick false (inl e) = inl (rw e)
     pick false (inr e) = inr (omega arith)

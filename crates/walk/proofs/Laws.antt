@@ -15,11 +15,9 @@ use Rattle.base.proofs.Lists.{cons_at}
 use Rattle.words.specs.Symbols.{lower, symbol_of}
 use Rattle.words.specs.Words.{word_symbols, row_of}
 use Rattle.words.proofs.Laws.{symbols_append}
-use Rattle.table.specs.Table.{look, entry_at}
-use Rattle.table.specs.declared.Look.{Look}
-use Rattle.table.specs.declared.Look.TheVariants.{Hit, Miss}
 use Rattle.table.specs.declared.Entry.{Entry}
-use Rattle.table.specs.declared.Entry.TheVariants.{Has, Stop}
+use Rattle.table.specs.Table.{look, entry_at, Look, hit, has}
+use Rattle.std.specs.Prelude.{Some, None, Option}
 use Rattle.table.proofs.Laws.{entry_none}
 use Rattle.walk.specs.Chain.{Setting, setting, chain_step, chain_from, chain}
 use Rattle.walk.specs.Walk.{set_step, set_from, look_step, looks_from, settings, looks}
@@ -82,13 +80,13 @@ module _ (n m end distance level : ℕ) (room : List ℕ) where
   entry_sets h k d = rw (le-leb 1 level h, le-leb level level_limit k, le-leb distance m d)
 
 -- a chain's equation, whatever bound its numbers are given
-step_agrees : (f g : ℕ → List Setting) (m end k : ℕ) → ((j : ℕ) → j < k → f j ≡ g j) → (e : Entry) → chain_step f m end k e ≡ chain_step g m end k e
+step_agrees : (f g : ℕ → List Setting) (m end k : ℕ) → ((j : ℕ) → j < k → f j ≡ g j) → (e : Option Entry) → chain_step f m end k e ≡ chain_step g m end k e
 unfolding chain_step
-step_agrees f g m end k h Stop = refl
-step_agrees f g m end k h (Has distance level next) = go (ltb next k) refl
+step_agrees f g m end k h None = refl
+step_agrees f g m end k h (Some entry) = go (ltb entry.next k) refl
   where
-    go : (z : Bool) → ltb next k ≡ z → setting m end distance level ++ cond z (f next) [] ≡ setting m end distance level ++ cond z (g next) []
-    go true p = ap (λ (l : List Setting). setting m end distance level ++ l) (h next (ltb-true next k p))
+    go : (z : Bool) → ltb entry.next k ≡ z → setting m end entry.distance entry.level ++ cond z (f entry.next) [] ≡ setting m end entry.distance entry.level ++ cond z (g entry.next) []
+    go true p = ap (λ (l : List Setting). setting m end entry.distance entry.level ++ l) (h entry.next (ltb-true entry.next k p))
     go false p = refl
 
 chain_none : (entries : List ℕ) (f : ℕ → List Setting) (m end k : ℕ) → k < 1 → chain_step f m end k (entry_at entries k) ≡ []
@@ -111,12 +109,12 @@ chain_turn entries m end (suc k) =
     step_agrees (λ j. chain_from entries m end k j) (λ j. chain_from entries m end j j) m end (suc k)
     (λ j i. chain_bound entries m end k j j (omega arith) (omega arith)) (entry_at entries (suc k))
 
-module _ (entries : List ℕ) (n m end k : ℕ) (room : List ℕ) {e : Entry} (p : e ≡ entry_at entries k) where
-  pub chain_stop : e ≡ Stop → room ≡ raise_all n (chain entries m end k) room
+module _ (entries : List ℕ) (n m end k : ℕ) (room : List ℕ) {e : Option Entry} (p : e ≡ entry_at entries k) where
+  pub chain_stop : e ≡ None → room ≡ raise_all n (chain entries m end k) room
   unfolding chain_step raise_all
   chain_stop q = rw (chain_turn entries m end k, ← p, q)
 
-  module _ {distance level next : ℕ} (q : e ≡ Has distance level next) {after : List ℕ} (r : after ≡ raise_all n (setting m end distance level) room) where
+  module _ {distance level next : ℕ} (q : e ≡ has distance level next) {after : List ℕ} (r : after ≡ raise_all n (setting m end distance level) room) where
     pub chain_ends : k ≤ next → after ≡ raise_all n (chain entries m end k) room
     unfolding chain_step
     chain_ends h = r ∙ rw (chain_turn entries m end k, ← p, q, le-ltb next k h, append-nil)
@@ -164,7 +162,7 @@ module _ (cells entries : List ℕ) (root n place : ℕ) (row room₀ : List ℕ
         rw (e, cons_at row end w.inside)
 
     module _ {found : Look} (p : found ≡ look cells (base + get_or row end 0) (get_or row end 0)) where
-      pub walking_miss : found ≡ Miss → Ended (m + 1) room
+      pub walking_miss : found ≡ None → Ended (m + 1) room
       unfolding set_step look_step
       walking_miss q =
           record {
@@ -174,7 +172,7 @@ module _ (cells entries : List ℕ) (root n place : ℕ) (row room₀ : List ℕ
             kept = w.kept;
           }
 
-      module _ {link output : ℕ} (q : found ≡ Hit link output) {after : List ℕ} (r : after ≡ raise_all n (chain entries (m + 1) (end + 1) output) room) where
+      module _ {link output : ℕ} (q : found ≡ hit link output) {after : List ℕ} (r : after ≡ raise_all n (chain entries (m + 1) (end + 1) output) room) where
         tail : List Setting
         tail = set_from cells entries (pattern_limit - (m + 1)) link (m + 1) (end + 1) (drop (end + 1) row)
 

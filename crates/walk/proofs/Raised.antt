@@ -10,9 +10,9 @@ use lib.ListN.{length, get_or, set}
 use lib.Seq.{get_or-set_same, get_or-set_other}
 use Rattle.base.specs.Limits.{level_limit}
 use Rattle.words.specs.Words.{inner}
-use Rattle.table.specs.Table.{entry_at}
 use Rattle.table.specs.declared.Entry.{Entry}
-use Rattle.table.specs.declared.Entry.TheVariants.{Has, Stop}
+use Rattle.table.specs.Table.{entry_at}
+use Rattle.std.specs.Prelude.{Some, None, Option}
 use Rattle.walk.specs.Chain.{Setting, setting, chain_step, chain_from, chain}
 use Rattle.walk.specs.Raise.{highest_set, raise, raise_all}
 use Rattle.walk.proofs.Laws.{raise_length}
@@ -99,16 +99,16 @@ module _ (entries : List ℕ) (m end by gap : ℕ) (h : m ≤ end) where
       go true false c p = refl
       go false b c p = refl
 
-  step_moved : (f g : ℕ → List Setting) (k : ℕ) → ((j : ℕ) → highest_set (f j) (gap + by) ≡ highest_set (g j) gap) → (e : Entry)
+  step_moved : (f g : ℕ → List Setting) (k : ℕ) → ((j : ℕ) → highest_set (f j) (gap + by) ≡ highest_set (g j) gap) → (e : Option Entry)
       → highest_set (chain_step f m (end + by) k e) (gap + by) ≡ highest_set (chain_step g m end k e) gap
   unfolding chain_step highest_set
-  step_moved f g k next Stop = refl
-  step_moved f g k next (Has d l j) =
-      highest_append (setting m (end + by) d l) (cond (ltb j k) (f j) []) (gap + by)
-      ∙ rw (setting_moved d l, rest (ltb j k)) (sym (highest_append (setting m end d l) (cond (ltb j k) (g j) []) gap))
+  step_moved f g k next None = refl
+  step_moved f g k next (Some entry) =
+      highest_append (setting m (end + by) entry.distance entry.level) (cond (ltb entry.next k) (f entry.next) []) (gap + by)
+      ∙ rw (setting_moved entry.distance entry.level, rest (ltb entry.next k)) (sym (highest_append (setting m end entry.distance entry.level) (cond (ltb entry.next k) (g entry.next) []) gap))
     where
-      rest : (z : Bool) → highest_set (cond z (f j) []) (gap + by) ≡ highest_set (cond z (g j) []) gap
-      rest true = next j
+      rest : (z : Bool) → highest_set (cond z (f entry.next) []) (gap + by) ≡ highest_set (cond z (g entry.next) []) gap
+      rest true = next entry.next
       rest false = refl
 
   from_moved : (bound k : ℕ) → highest_set (chain_from entries m (end + by) bound k) (gap + by) ≡ highest_set (chain_from entries m end bound k) gap

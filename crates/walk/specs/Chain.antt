@@ -1,9 +1,8 @@
 -- The output of a path: a chain of entries, each of which sets a level at a gap.
-use Rattle.std.specs.Prelude.{ℕ, zero, suc, ◌-◌, cond, ◌&&◌, List, [], ◌∷◌, ◌++◌, leb, ltb}
+use Rattle.std.specs.Prelude.{ℕ, zero, suc, ◌-◌, cond, ◌&&◌, List, [], ◌∷◌, ◌++◌, leb, ltb, Some, None, Option}
 use Rattle.base.specs.Limits.{level_limit}
-use Rattle.table.specs.Table.{entry_at}
 use Rattle.table.specs.declared.Entry.{Entry}
-use Rattle.table.specs.declared.Entry.TheVariants.{Has, Stop}
+use Rattle.table.specs.Table.{entry_at}
 
 -- A level set at a gap, which is told by the number of symbols of the row before it.
 pub record Setting : Type 0 where
@@ -17,11 +16,11 @@ setting m end distance level = cond (leb 1 level && (leb level level_limit && le
 
 -- "Then comes entry "next"; a chain's next number is lower than its own, and 0 ends it": "a next not lower ends the chain after
 -- this entry". `go` is the chain from a number on.
-unfoldable pub chain_step : (ℕ → List Setting) → ℕ → ℕ → ℕ → Entry → List Setting
-chain_step go m end k Stop = []
-chain_step go m end k (Has distance level next) =
-    let rest = go next in
-    setting m end distance level ++ cond (ltb next k) rest []
+unfoldable pub chain_step : (ℕ → List Setting) → ℕ → ℕ → ℕ → Option Entry → List Setting
+chain_step go m end k None = []
+chain_step go m end k (Some entry) =
+    let rest = go entry.next in
+    setting m end entry.distance entry.level ++ cond (ltb entry.next k) rest []
 
 -- Entry numbers fall along a chain, so that its first number bounds its length.
 unfoldable pub chain_from : List ℕ → ℕ → ℕ → ℕ → ℕ → List Setting

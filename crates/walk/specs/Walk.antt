@@ -1,18 +1,16 @@
 -- The walks from all places of a row: what they set, how many cells they look at, and how many symbols they match.
-use Rattle.std.specs.Prelude.{ℕ, zero, suc, ◌+◌, cond, List, [], ◌∷◌, ◌++◌, eqb}
+use Rattle.std.specs.Prelude.{ℕ, zero, suc, ◌+◌, cond, List, [], ◌∷◌, ◌++◌, eqb, Some, None}
 use Rattle.base.specs.Limits.{pattern_limit}
-use Rattle.table.specs.Table.{look}
-use Rattle.table.specs.declared.Look.{Look}
-use Rattle.table.specs.declared.Look.TheVariants.{Hit, Miss}
+use Rattle.table.specs.Table.{look, Look}
 use Rattle.walk.specs.Chain.{Setting, chain}
 
 -- "After a match, its output applies; go on with the next symbol and base = link, unless link is 0, the row has ended or 16
 -- symbols have matched. The first mismatch ends the walk." `go` is the walk from a link on.
 unfoldable pub set_step : (ℕ → List Setting) → List ℕ → ℕ → ℕ → Look → List Setting
-set_step go entries m end Miss = []
-set_step go entries m end (Hit link output) =
-    let rest = go link in
-    chain entries m end output ++ cond (eqb link 0) [] rest
+set_step go entries m end None = []
+set_step go entries m end (Some found) =
+    let rest = go found.link in
+    chain entries m end found.output ++ cond (eqb found.link 0) [] rest
 
 -- What a walk sets from the symbols given on. `left` symbols may still match, `m` have matched, and `end` symbols of the row
 -- stand before the first one given.
@@ -24,10 +22,10 @@ set_from cells entries (suc left) base m end (s ∷ row) =
 
 -- "Each look counts one, also past the last cell."
 unfoldable pub look_step : (ℕ → ℕ) → Look → ℕ
-look_step go Miss = 1
-look_step go (Hit link output) =
-    let rest = go link in
-    1 + cond (eqb link 0) 0 rest
+look_step go None = 1
+look_step go (Some found) =
+    let rest = go found.link in
+    1 + cond (eqb found.link 0) 0 rest
 
 unfoldable pub looks_from : List ℕ → ℕ → ℕ → List ℕ → ℕ
 looks_from cells zero base row = 0
@@ -36,10 +34,10 @@ looks_from cells (suc left) base (s ∷ row) = look_step (λ link. looks_from ce
 
 -- How many symbols a walk matches: "the walk from there matches m symbols". Its looks without the mismatch that may end it.
 unfoldable pub match_step : (ℕ → ℕ) → Look → ℕ
-match_step go Miss = 0
-match_step go (Hit link output) =
-    let rest = go link in
-    1 + cond (eqb link 0) 0 rest
+match_step go None = 0
+match_step go (Some found) =
+    let rest = go found.link in
+    1 + cond (eqb found.link 0) 0 rest
 
 unfoldable pub matches_from : List ℕ → ℕ → ℕ → List ℕ → ℕ
 matches_from cells zero base row = 0

@@ -3,14 +3,13 @@
 
 ghost use Rattle.std.specs.Prelude.{◌≡◌, ◌+◌, ◌≤◌, max, length, take, replicate};
 ghost use Rattle.base.specs.Limits.{word_limit, row_limit, room_size, pattern_limit};
-ghost use Rattle.base.specs.declared.Check.{Check};
 ghost use Rattle.words.specs.Words.{judge_word, row_of};
 ghost use Rattle.walk.specs.Chain.{setting, chain};
 ghost use Rattle.walk.specs.Walk.{looks};
 ghost use Rattle.walk.specs.Raise.{raise, raise_all};
 ghost use Rattle.walk.specs.Post.{Walked};
 
-use table::{Entry, Look};
+use table::{Cell, Entry};
 
 // The higher of two levels.
 fn higher(a: u8, b: u8) -> u8
@@ -75,12 +74,11 @@ fn apply_chain(
     requires { (m ≤ end) × (n ≤ room_size) }
     ensures { room.new ≡ raise_all n (chain entries.now.now m end k) room.old }
 {
-    let entry = table::entry_at(*entries, k);
-    if let Entry::Has {
+    if let Some(Entry {
         distance,
         level,
         next,
-    } = entry
+    }) = table::entry_at(*entries, k)
     {
         apply_entry(room, n, m, end, distance, level);
         if next < k {
@@ -109,8 +107,7 @@ fn walk_row(
         let mut end = place;
         let walked = 'walk: loop {
             let symbol = row[end];
-            let found = table::look_at(cells, base, symbol);
-            let Look::Hit { link, output } = found else {
+            let Some(Cell { link, output }) = table::look_at(cells, base, symbol) else {
                 break 'walk m + 1;
             };
             m += 1;
@@ -135,7 +132,7 @@ fn walk_row(
 
 // The row of a judged word: its symbols between two edges.
 fn fill_row(word: &[u8], row: &mut [u8])
-    requires { (judge_word word_limit word.now ≡ Check.Fine) × (length word.now + 2 ≤ length row.old) }
+    requires { (judge_word word_limit word.now ≡ Ok tt) × (length word.now + 2 ≤ length row.old) }
     ensures { take (length word.now + 2) row.new ≡ row_of word.now }
 {
     row[0] = base::EDGE;
@@ -156,7 +153,7 @@ pub fn walk_word(
     word: &[u8],
     room: &mut [u8; base::ROOM_SIZE],
 ) -> usize
-    requires { judge_word word_limit word.now ≡ Check.Fine }
+    requires { judge_word word_limit word.now ≡ Ok tt }
     ensures { Walked cells.now entries.now root (length word.now) (row_of word.now) (replicate room_size 0) result room.new }
 {
     let mut row = [0u8; base::ROW_LIMIT];

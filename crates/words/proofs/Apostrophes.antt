@@ -11,7 +11,7 @@ use borrow.Author.Tests.{eq-eqb, ne_eqb, eqb-true, eqb-false}
 use lib.Dec.{eqb}
 use lib.ListN.{length, get_or, drop}
 use Rattle.base.specs.Limits.{apostrophe_symbol}
-use Rattle.base.specs.declared.Check.TheVariants.{Fine, Refused}
+use Rattle.std.specs.Prelude.{Ok, Err}
 use Rattle.base.specs.declared.Ground.TheVariants.{NotLetter}
 use Rattle.base.proofs.Lists.{clash, never, both}
 use Rattle.words.specs.Symbols.{dot, apostrophe, small, capital, letter, symbol_of}
@@ -56,17 +56,17 @@ module _ (rule : Rule) where
           ap (λ (z : Bool). rule z (get_or t k 0) (drop (suc k) t)) (sym (before_on after b t k)) ∙ next (omega arith)
       go false p h next = p
 
-  pub all_lead : (at : ℕ) (after : Bool) (w : List ℕ) → all_fit rule at after w ≡ Fine → leading rule after w ≡ length w
+  pub all_lead : (at : ℕ) (after : Bool) (w : List ℕ) → all_fit rule at after w ≡ Ok tt → leading rule after w ≡ length w
   unfolding all_fit leading
   all_lead at after [] e = refl
   all_lead at after (b ∷ t) e = go (rule after b t) e (all_lead (at + 1) (letter b) t)
     where
-      go : (z : Bool) → cond z (all_fit rule (at + 1) (letter b) t) (Refused (NotLetter at)) ≡ Fine → (all_fit rule (at + 1) (letter b) t ≡ Fine → leading rule (letter b) t ≡ length t)
+      go : (z : Bool) → cond z (all_fit rule (at + 1) (letter b) t) (Err (NotLetter at)) ≡ Ok tt → (all_fit rule (at + 1) (letter b) t ≡ Ok tt → leading rule (letter b) t ≡ length t)
           → cond z (suc (leading rule (letter b) t)) 0 ≡ suc (length t)
       go true h next = ap suc (next h)
       go false h next = clash cc
 
-  each_all : (at : ℕ) (after : Bool) (w : List ℕ) → ((i : ℕ) → i < length w → fits_at rule after w i ≡ true) → all_fit rule at after w ≡ Fine
+  each_all : (at : ℕ) (after : Bool) (w : List ℕ) → ((i : ℕ) → i < length w → fits_at rule after w i ≡ true) → all_fit rule at after w ≡ Ok tt
   unfolding all_fit
   each_all at after [] f = refl
   each_all at after (b ∷ t) f =
@@ -116,7 +116,7 @@ told_place w = (
 )
 
 -- A word is good exactly where it isn't empty, isn't over its limit, and each byte may stand where it does.
-pub word_exactly : (limit : ℕ) (w : List ℕ) → (judge_word limit w ≡ Fine) ↔ ((1 ≤ length w) × (length w ≤ limit) × ((i : ℕ) → i < length w → MayStand w i))
+pub word_exactly : (limit : ℕ) (w : List ℕ) → (judge_word limit w ≡ Ok tt) ↔ ((1 ≤ length w) × (length w ≤ limit) × ((i : ℕ) → i < length w → MayStand w i))
 unfolding judge_by
 word_exactly limit w = (
   λ e.

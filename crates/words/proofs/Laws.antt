@@ -9,11 +9,10 @@ use borrow.Author.Tests.{lt-leb, le-leb, lt-ltb, le-ltb, eq-eqb, ne_eqb, leb-tru
 use lib.Dec.{leb, ltb, eqb}
 use lib.ListN.{length, get_or, drop, length-append, drop_of_length-le}
 use Rattle.base.specs.Limits.{edge, apostrophe_symbol}
-use Rattle.base.specs.declared.Check.{Check}
-use Rattle.base.specs.declared.Check.TheVariants.{Fine, Refused}
+use Rattle.base.specs.Grounds.{Check, refuse_if}
+use Rattle.std.specs.Prelude.{Ok, Err}
 use Rattle.base.specs.declared.Ground.{Ground}
 use Rattle.base.specs.declared.Ground.TheVariants.{WordEmpty, WordLong, NotLetter}
-use Rattle.base.specs.Grounds.{refuse_if}
 use Rattle.base.proofs.Grounds.{both_fine, not_refused}
 use Rattle.base.proofs.Lists.{clash, cons_at, never}
 use Rattle.words.specs.Symbols.{small, capital, letter, lower, digit, symbol_of, symbols_of, dot, apostrophe}
@@ -87,25 +86,25 @@ unfolding symbol_of
 symbol_none b e d q = rw (e, ne_eqb b dot d, ne_eqb b apostrophe q)
 
 -- the judgement of a word's length, by the way the code goes
-pub length_none : (limit size : ℕ) → size ≡ 0 → Refused WordEmpty ≡ judge_length limit size
+pub length_none : (limit size : ℕ) → size ≡ 0 → Err WordEmpty ≡ judge_length limit size
 unfolding judge_length
 length_none limit size h = rw (eq-eqb size 0 h)
 
-pub length_over : (limit size : ℕ) → (size ≡ 0 → ⊥) → limit < size → Refused WordLong ≡ judge_length limit size
+pub length_over : (limit size : ℕ) → (size ≡ 0 → ⊥) → limit < size → Err WordLong ≡ judge_length limit size
 unfolding judge_length
 length_over limit size h k = rw (ne_eqb size 0 h, lt-ltb limit size k)
 
-pub length_fine : (limit size : ℕ) → (size ≡ 0 → ⊥) → size ≤ limit → Fine ≡ judge_length limit size
+pub length_fine : (limit size : ℕ) → (size ≡ 0 → ⊥) → size ≤ limit → (Ok tt) ≡ judge_length limit size
 unfolding judge_length
 length_fine limit size h k = rw (ne_eqb size 0 h, le-ltb limit size k)
 
 -- the judgement of a word under any rule: by its length, then byte by byte
 module _ (rule : Rule) (limit : ℕ) (w : List ℕ) {c : Check} (l : c ≡ judge_length limit (length w)) where
-  pub word_refused : {g : Ground} → c ≡ Refused g → Refused g ≡ judge_by rule limit w
+  pub word_refused : {g : Ground} → c ≡ Err g → Err g ≡ judge_by rule limit w
   unfolding judge_by
   word_refused r = rw (sym l ∙ r)
 
-  pub word_scan : c ≡ Fine → judge_by rule limit w ≡ all_fit rule 0 false w
+  pub word_scan : c ≡ Ok tt → judge_by rule limit w ≡ all_fit rule 0 false w
   unfolding judge_by
   word_scan r = rw (sym l ∙ r)
 
@@ -114,11 +113,11 @@ module _ (rule : Rule) (after : Bool) (w : List ℕ) (i : ℕ) (h : i < length w
   unfolding all_fit
   fit_on e = rw (cons_at w i h, e)
 
-  fit_stop : rule after (get_or w i 0) (drop (i + 1) w) ≡ false → all_fit rule i after (drop i w) ≡ Refused (NotLetter i)
+  fit_stop : rule after (get_or w i 0) (drop (i + 1) w) ≡ false → all_fit rule i after (drop i w) ≡ Err (NotLetter i)
   unfolding all_fit
   fit_stop e = rw (cons_at w i h, e)
 
-pub fit_end : (rule : Rule) (after : Bool) (w : List ℕ) (i : ℕ) → length w ≤ i → all_fit rule i after (drop i w) ≡ Fine
+pub fit_end : (rule : Rule) (after : Bool) (w : List ℕ) (i : ℕ) → length w ≤ i → all_fit rule i after (drop i w) ≡ Ok tt
 unfolding all_fit
 fit_end rule after w i h = rw (drop_of_length-le w h)
 
@@ -133,7 +132,7 @@ module _ (w : List ℕ) (i : ℕ) (h : i < length w) where
   unfolding letters_alone
   letters_pass e = fit_on letters_alone false w i h e ∙ letters_any (drop (i + 1) w) (i + 1) (letter (get_or w i 0)) false
 
-  pub letters_stop : letter (get_or w i 0) ≡ false → all_fit letters_alone i false (drop i w) ≡ Refused (NotLetter i)
+  pub letters_stop : letter (get_or w i 0) ≡ false → all_fit letters_alone i false (drop i w) ≡ Err (NotLetter i)
   unfolding letters_alone
   letters_stop e = fit_stop letters_alone false w i h e
 
@@ -194,29 +193,29 @@ module _ (w : List ℕ) (i : ℕ) (h : i < length w) where
     unfolding with_apostrophes
     word_between q = word_on (rw (e, sym p ∙ not-false r q))
 
-    pub word_stop : not r ≡ true → all_fit with_apostrophes i (letter_before w i) (drop i w) ≡ Refused (NotLetter i)
+    pub word_stop : not r ≡ true → all_fit with_apostrophes i (letter_before w i) (drop i w) ≡ Err (NotLetter i)
     unfolding with_apostrophes
     word_stop q = fit_stop with_apostrophes (letter_before w i) w i h (rw (e, sym p ∙ not-true r q))
 
 -- what a judged word is: not empty, short, and each byte as its rule has it
 fits_each : (rule : Rule) (test : ℕ → Bool) → ((after : Bool) (b : ℕ) (t : List ℕ) → rule after b t ≡ true → test b ≡ true)
-    → (at : ℕ) (after : Bool) (l : List ℕ) → all_fit rule at after l ≡ Fine → (i : ℕ) → i < length l → test (get_or l i 0) ≡ true
+    → (at : ℕ) (after : Bool) (l : List ℕ) → all_fit rule at after l ≡ Ok tt → (i : ℕ) → i < length l → test (get_or l i 0) ≡ true
 unfolding all_fit
 fits_each rule test says at after [] e i h = absurd (omega arith)
 fits_each rule test says at after (b ∷ t) e i h = go (rule after b t) refl e (fits_each rule test says (at + 1) (letter b) t) i h
   where
-    go : (z : Bool) → rule after b t ≡ z → cond z (all_fit rule (at + 1) (letter b) t) (Refused (NotLetter at)) ≡ Fine
-        → (all_fit rule (at + 1) (letter b) t ≡ Fine → (i : ℕ) → i < length t → test (get_or t i 0) ≡ true) → (i : ℕ) → i < length (b ∷ t) → test (get_or (b ∷ t) i 0) ≡ true
+    go : (z : Bool) → rule after b t ≡ z → cond z (all_fit rule (at + 1) (letter b) t) (Err (NotLetter at)) ≡ Ok tt
+        → (all_fit rule (at + 1) (letter b) t ≡ Ok tt → (i : ℕ) → i < length t → test (get_or t i 0) ≡ true) → (i : ℕ) → i < length (b ∷ t) → test (get_or (b ∷ t) i 0) ≡ true
     go true p q next zero k = says after b t p
     go true p q next (suc i) k = next q i (omega arith)
     go false p q next i k = clash cc
 
-module _ (rule : Rule) (limit : ℕ) (w : List ℕ) (fine : judge_by rule limit w ≡ Fine) where
-  judged_length : judge_length limit (length w) ≡ Fine
+module _ (rule : Rule) (limit : ℕ) (w : List ℕ) (fine : judge_by rule limit w ≡ Ok tt) where
+  judged_length : judge_length limit (length w) ≡ Ok tt
   unfolding judge_by
   judged_length = (both_fine (judge_length limit (length w)) (all_fit rule 0 false w) fine).0
 
-  pub judged_bytes : all_fit rule 0 false w ≡ Fine
+  pub judged_bytes : all_fit rule 0 false w ≡ Ok tt
   unfolding judge_by
   judged_bytes = (both_fine (judge_length limit (length w)) (all_fit rule 0 false w) fine).1
 
@@ -229,7 +228,7 @@ module _ (rule : Rule) (limit : ℕ) (w : List ℕ) (fine : judge_by rule limit 
   unfolding judge_length
   judged_fits = ltb-false limit (length w) (not_refused (ltb limit (length w)) WordLong (both_fine (refuse_if (eqb (length w) 0) WordEmpty) _ judged_length).1)
 
-module _ (limit : ℕ) (w : List ℕ) (fine : judge_letters limit w ≡ Fine) where
+module _ (limit : ℕ) (w : List ℕ) (fine : judge_letters limit w ≡ Ok tt) where
   pub letters_fit : length w ≤ limit
   letters_fit = judged_fits letters_alone limit w fine
 
@@ -246,7 +245,7 @@ between_byte after b t e = go (letter b) (eqb b apostrophe) (after && starts_let
     go false true z h = refl
     go false false z h = h
 
-module _ (limit : ℕ) (w : List ℕ) (fine : judge_word limit w ≡ Fine) where
+module _ (limit : ℕ) (w : List ℕ) (fine : judge_word limit w ≡ Ok tt) where
   pub word_some : 0 < length w
   word_some = judged_some with_apostrophes limit w fine
 

@@ -9,7 +9,7 @@ use borrow.Author.Tests.{lt-ltb, le-ltb}
 use lib.Dec.{ltb, eqb}
 use lib.ListN.{length}
 use Rattle.base.specs.Grounds.{Said, Finds, Refuses, says, first_of, placed, on_at}
-use Rattle.base.specs.declared.Check.TheVariants.{Refused}
+use Rattle.std.specs.Prelude.{Err}
 use Rattle.base.specs.declared.Ground.TheVariants.{WordEmpty, WordLong, NotLetter}
 use Rattle.base.proofs.Grounds.{Ordered, ordered_first, ordered_if}
 use Rattle.words.specs.Symbols.{letter}
@@ -33,7 +33,7 @@ module _ (rule : Rule) where
   fit_said_lem at after (b ∷ t) = go (rule after b t) (fit_said_lem (at + 1) (letter b) t)
     where
       go : (z : Bool) → says (all_fit rule (at + 1) (letter b) t) ≡ at_leading (at + 1) (leading rule (letter b) t) (length t)
-          → says (cond z (all_fit rule (at + 1) (letter b) t) (Refused (NotLetter at))) ≡ at_leading at (cond z (suc (leading rule (letter b) t)) 0) (suc (length t))
+          → says (cond z (all_fit rule (at + 1) (letter b) t) (Err (NotLetter at))) ≡ at_leading at (cond z (suc (leading rule (letter b) t)) 0) (suc (length t))
       go true e = e ∙ one_further at (leading rule (letter b) t) (length t)
       go false e = let z : at + 0 ≡ at = omega arith in rw (lt-ltb 0 (suc (length t)) (omega arith), z)
 

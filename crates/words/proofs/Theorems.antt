@@ -7,9 +7,8 @@ use native.Mathlib.Omega.{arith}
 use borrow.Author.Tests.{le-leb, lt-leb, ne_eqb}
 use lib.Dec.{leb, eqb}
 use lib.ListN.{length}
-use Rattle.base.specs.Grounds.{first}
-use Rattle.base.specs.declared.Check.{Check}
-use Rattle.base.specs.declared.Check.TheVariants.{Fine, Refused}
+use Rattle.base.specs.Grounds.{first, Check}
+use Rattle.std.specs.Prelude.{Ok, Err}
 use Rattle.base.specs.declared.Ground.TheVariants.{NotLetter}
 use Rattle.base.proofs.Lists.{never}
 use Rattle.words.specs.Symbols.{apostrophe, small, capital, letter, lower, symbol_of}
@@ -68,8 +67,8 @@ starts_small [] = false
 starts_small (b ∷ t) = small b
 
 small_fit : ℕ → Bool → List ℕ → Check
-small_fit at after [] = Fine
-small_fit at after (b ∷ t) = cond (small b || (eqb b apostrophe && (after && starts_small t))) (small_fit (at + 1) (small b) t) (Refused (NotLetter at))
+small_fit at after [] = Ok tt
+small_fit at after (b ∷ t) = cond (small b || (eqb b apostrophe && (after && starts_small t))) (small_fit (at + 1) (small b) t) (Err (NotLetter at))
 
 starts_lowered : (w : List ℕ) → starts_letter w ≡ starts_small (map lower w)
 unfolding starts_letter starts_small

@@ -1,9 +1,7 @@
 -- Words: their judgement, their symbols, the row with its edges, and the inner gaps.
-use Rattle.std.specs.Prelude.{ℕ, zero, suc, ◌+◌, ◌-◌, ◌≤◌, Bool, true, false, cond, ◌&&◌, ◌||◌, List, [], ◌∷◌, ◌++◌, map, ◌⊎◌, ◌≡◌, leb, ltb, eqb, length, get_or}
+use Rattle.std.specs.Prelude.{ℕ, zero, suc, ◌+◌, ◌-◌, ◌≤◌, Bool, true, false, cond, ◌&&◌, ◌||◌, List, [], ◌∷◌, ◌++◌, map, ◌⊎◌, ◌≡◌, leb, ltb, eqb, length, get_or, Ok, Err}
 use Rattle.base.specs.Limits.{edge}
-use Rattle.base.specs.Grounds.{Row, on, on_at, first, refuse_if}
-use Rattle.base.specs.declared.Check.{Check}
-use Rattle.base.specs.declared.Check.TheVariants.{Fine, Refused}
+use Rattle.base.specs.Grounds.{Row, on, on_at, first, refuse_if, Check}
 use Rattle.base.specs.declared.Ground.TheVariants.{WordEmpty, WordLong, NotLetter}
 use Rattle.words.specs.Symbols.{letter, lower, symbol_of, apostrophe}
 
@@ -48,8 +46,8 @@ letter_grounds limit w = grounds_by letters_alone limit w
 
 -- The same as it is judged byte by byte. Ground 3: `at` is the place of the first byte given.
 unfoldable pub all_fit : Rule → ℕ → Bool → List ℕ → Check
-all_fit rule at after [] = Fine
-all_fit rule at after (b ∷ t) = cond (rule after b t) (all_fit rule (at + 1) (letter b) t) (Refused (NotLetter at))
+all_fit rule at after [] = Ok tt
+all_fit rule at after (b ∷ t) = cond (rule after b t) (all_fit rule (at + 1) (letter b) t) (Err (NotLetter at))
 
 -- Does a letter stand right before place i of a word?
 unfoldable pub letter_before : List ℕ → ℕ → Bool

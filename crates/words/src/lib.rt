@@ -6,7 +6,7 @@ ghost use Rattle.base.specs.Grounds.{Finds, says, first_of};
 ghost use Rattle.words.specs.Symbols.{small, capital, letter, lower, digit, symbol_of};
 ghost use Rattle.words.specs.Words.{is_between, letter_before, word_grounds, letter_grounds, judge_length, word_byte};
 
-use base::{Check, Ground};
+use base::Ground;
 
 // The bytes that the texts name (specs/Symbols.antt: line_feed, hyphen, dot, apostrophe).
 pub const LINE_FEED: u8 = 10;
@@ -102,34 +102,31 @@ pub fn word_symbol(b: u8) -> u8
 }
 
 // Grounds 2 and 4 of a word of this size and at most limit bytes.
-fn judge_length(size: usize, limit: usize) -> Check
+fn judge_length(size: usize, limit: usize) -> Result<(), Ground>
     ensures { result ≡ judge_length limit size }
 {
     if size == 0 {
-        return Check::Refused(Ground::WordEmpty);
+        return Err(Ground::WordEmpty);
     }
     if limit < size {
-        return Check::Refused(Ground::WordLong);
+        return Err(Ground::WordLong);
     }
-    Check::Fine
+    Ok(())
 }
 
 // Grounds 2, 4 and 3 of a word that may have letters alone, as the machine of 1980 judges it.
-pub fn judge_letters(word: &[u8], limit: usize) -> Check
+pub fn judge_letters(word: &[u8], limit: usize) -> Result<(), Ground>
     ensures { says result ≡ first_of (Finds []) (letter_grounds limit word.now) }
 {
-    let length = judge_length(word.len(), limit);
-    if let Check::Refused(g) = length {
-        return Check::Refused(g);
-    }
+    judge_length(word.len(), limit)?;
     let mut i = 0;
     while i < word.len() {
         if !is_letter(word[i]) {
-            return Check::Refused(Ground::NotLetter(i)); // the first such byte
+            return Err(Ground::NotLetter(i)); // the first such byte
         }
         i += 1;
     }
-    Check::Fine
+    Ok(())
 }
 
 // Is the byte at i an apostrophe between two letters? Both neighbours are looked at only here, so that letters pass with one test each.
@@ -153,23 +150,20 @@ fn is_between(word: &[u8], i: usize) -> bool
 }
 
 // Grounds 2, 4 and 3 of a word of at most limit bytes.
-pub fn judge_word(word: &[u8], limit: usize) -> Check
+pub fn judge_word(word: &[u8], limit: usize) -> Result<(), Ground>
     ensures { says result ≡ first_of (Finds []) (word_grounds limit word.now) }
 {
-    let length = judge_length(word.len(), limit);
-    if let Check::Refused(g) = length {
-        return Check::Refused(g);
-    }
+    judge_length(word.len(), limit)?;
     let mut i = 0;
     while i < word.len() {
         if is_letter(word[i]) {
             i += 1;
         } else {
             if !is_between(word, i) {
-                return Check::Refused(Ground::NotLetter(i)); // at its own place
+                return Err(Ground::NotLetter(i)); // at its own place
             }
             i += 1;
         }
     }
-    Check::Fine
+    Ok(())
 }

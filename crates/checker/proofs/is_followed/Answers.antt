@@ -17,13 +17,13 @@ pub returns-then-node : goal.returns-then-node
 returns-then-node c = sym (c.loop-i.invariant.same ∙ law.follow_leaf _ _ _ _ _ _ _ _ _ c.loop-i-test.true c.symbol_of-symbol.ensures c.if-symbol-ne0.true (record { passes = grind (arith, le-leb, eq-eqb) }) c.is_passed_over.ensures c.if-not-is_passed_over.false c.if-node.true)
 
 pub returns-in_default : goal.returns-in_default
-returns-in_default c = sym (c.loop-i.invariant.same ∙ law.follow_miss _ _ _ _ _ _ _ _ _ c.loop-i-test.true c.symbol_of-symbol.ensures c.if-symbol-ne0.true (record { passes = grind (arith, le-leb, eq-eqb) }) c.is_passed_over.ensures c.if-not-is_passed_over.false c.if-node.false c.look_at-found.ensures c.in_default.is)
+returns-in_default c = sym (c.loop-i.invariant.same ∙ law.follow_miss _ _ _ _ _ _ _ _ _ c.loop-i-test.true c.symbol_of-symbol.ensures c.if-symbol-ne0.true (record { passes = grind (arith, le-leb, eq-eqb) }) c.is_passed_over.ensures c.if-not-is_passed_over.false c.if-node.false c.look_at.ensures c.in_default.is)
 
 pub overflow_add-m : goal.overflow_add-m
 overflow_add-m c = omega (arith, law.following_few _ _ _ _ _ _ _ _ _ c.loop-i.invariant c.loop-i-test.true c.symbol_of-symbol.ensures c.if-symbol-ne0.true)
 
 pub loop-i-preserved-then-symbol-ne0 : goal.loop-i-preserved-then-symbol-ne0
-loop-i-preserved-then-symbol-ne0 c = law.following_on _ _ _ _ _ _ _ _ _ c.loop-i.invariant c.loop-i-test.true c.symbol_of-symbol.ensures c.if-symbol-ne0.true (law.follow_on _ _ _ _ _ _ _ _ _ c.loop-i-test.true c.symbol_of-symbol.ensures c.if-symbol-ne0.true (record { passes = grind (arith, le-leb, eq-eqb) }) c.is_passed_over.ensures c.if-not-is_passed_over.false c.if-node.false c.look_at-found.ensures c.in-Hit.is)
+loop-i-preserved-then-symbol-ne0 c = law.following_on _ _ _ _ _ _ _ _ _ c.loop-i.invariant c.loop-i-test.true c.symbol_of-symbol.ensures c.if-symbol-ne0.true (law.follow_on _ _ _ _ _ _ _ _ _ c.loop-i-test.true c.symbol_of-symbol.ensures c.if-symbol-ne0.true (record { passes = grind (arith, le-leb, eq-eqb) }) c.is_passed_over.ensures c.if-not-is_passed_over.false c.if-node.false c.look_at.ensures c.in-Some.is)
 
 pub loop-i-preserved : goal.loop-i-preserved
 loop-i-preserved c = law.following_skip _ _ _ _ _ _ _ _ _ c.loop-i.invariant c.loop-i-test.true c.symbol_of-symbol.ensures c.if-symbol-ne0.false

@@ -3,13 +3,13 @@ use Rattle.gauge.proofs.Order.{fit_ordered, answer_refused, answer_found}
 use Rattle.gauge.proofs.Laws.{fit_judged}
 use Rattle.gauge.proofs.fit_word.Goals as goal
 
-pub returns-in-Refused : goal.returns-in-Refused
-returns-in-Refused c = answer_refused _ _ _ _ c.judge_fit-judged.ensures c.in-Refused.is
+pub returns-in_err-judge_fit : goal.returns-in_err-judge_fit
+returns-in_err-judge_fit c = answer_refused _ _ _ _ c.judge_fit.ensures c.in_err-judge_fit.was
 
 pub find_fit-requires : goal.find_fit-requires
 find_fit-requires c =
-    let judged = fit_judged _ _ _ _ (judged_by (fit_ordered _ _ _ _) c.judge_fit-judged.ensures) c.in_default.is in
+    let judged = fit_judged _ _ _ _ (judged_by (fit_ordered _ _ _ _) c.judge_fit.ensures) c.in_ok-judge_fit.was in
     (c.find_fit-arg-1.given, judged.0, judged.1)
 
 pub returns : goal.returns
-returns c = answer_found _ _ _ _ c.judge_fit-judged.ensures c.in_default.is c.find_fit.ensures
+returns c = answer_found _ _ _ _ c.judge_fit.ensures c.in_ok-judge_fit.was c.find_fit.ensures

@@ -1,13 +1,13 @@
-use Rattle.base.proofs.Grounds.{judged_by}
+use Rattle.base.proofs.Grounds.{judged_by, handed_on}
 use Rattle.hyphenation.proofs.Calls.{refused, breaks_sizes, breaks_found}
 use Rattle.hyphenation.proofs.Order.{hyphenate_ordered, promised}
 use Rattle.hyphenation.proofs.hyphenate.Goals as goal
 
-pub returns-in-Refused : goal.returns-in-Refused
-returns-in-Refused c = promised (hyphenate_ordered _ _ _ _ _ _ _) (refused _ _ _ (judged_by (hyphenate_ordered _ _ _ _ _ _ _) c.judge_hyphenate-judged.ensures) c.in-Refused.is)
+pub returns-in_err-judge_hyphenate : goal.returns-in_err-judge_hyphenate
+returns-in_err-judge_hyphenate c = promised (hyphenate_ordered _ _ _ _ _ _ _) (refused _ _ _ (judged_by (hyphenate_ordered _ _ _ _ _ _ _) c.judge_hyphenate.ensures) c.in_err-judge_hyphenate.was (handed_on _ c.from_residual.ensures.1))
 
 pub find_breaks-requires : goal.find_breaks-requires
-find_breaks-requires c = breaks_sizes _ _ _ _ _ _ _ (judged_by (hyphenate_ordered _ _ _ _ _ _ _) c.judge_hyphenate-judged.ensures) c.in_default.is
+find_breaks-requires c = breaks_sizes _ _ _ _ _ _ _ (judged_by (hyphenate_ordered _ _ _ _ _ _ _) c.judge_hyphenate.ensures) c.in_ok-judge_hyphenate.was
 
 pub returns : goal.returns
-returns c = promised (hyphenate_ordered _ _ _ _ _ _ _) (breaks_found _ _ _ _ _ _ _ (judged_by (hyphenate_ordered _ _ _ _ _ _ _) c.judge_hyphenate-judged.ensures) c.in_default.is c.cells_of-cells.ensures.bytes c.entries_of-entries.ensures.bytes c.find_breaks.ensures)
+returns c = promised (hyphenate_ordered _ _ _ _ _ _ _) (breaks_found _ _ _ _ _ _ _ (judged_by (hyphenate_ordered _ _ _ _ _ _ _) c.judge_hyphenate.ensures) c.in_ok-judge_hyphenate.was c.cells_of-cells.ensures.bytes c.entries_of-entries.ensures.bytes c.find_breaks.ensures)

@@ -1,13 +1,13 @@
-use Rattle.base.proofs.Grounds.{judged_by}
+use Rattle.base.proofs.Grounds.{judged_by, handed_on}
 use Rattle.hyphenation.proofs.Calls.{refused, word_alone_sizes, breaks_found}
 use Rattle.hyphenation.proofs.Order.{word_alone_ordered, promised}
 use Rattle.hyphenation.proofs.hyphenate_word.Goals as goal
 
-pub returns-in-Refused : goal.returns-in-Refused
-returns-in-Refused c = promised (word_alone_ordered _ _) (refused _ _ _ (judged_by (word_alone_ordered _ _) c.judge_word_alone-judged.ensures) c.in-Refused.is)
+pub returns-in_err-judge_word_alone : goal.returns-in_err-judge_word_alone
+returns-in_err-judge_word_alone c = promised (word_alone_ordered _ _) (refused _ _ _ (judged_by (word_alone_ordered _ _) c.judge_word_alone.ensures) c.in_err-judge_word_alone.was (handed_on _ c.from_residual.ensures.1))
 
 pub find_breaks-requires : goal.find_breaks-requires
-find_breaks-requires c = word_alone_sizes _ _ (judged_by (word_alone_ordered _ _) c.judge_word_alone-judged.ensures) c.in_default.is
+find_breaks-requires c = word_alone_sizes _ _ (judged_by (word_alone_ordered _ _) c.judge_word_alone.ensures) c.in_ok-judge_word_alone.was
 
 pub returns : goal.returns
-returns c = promised (word_alone_ordered _ _) (breaks_found _ _ _ _ _ _ _ (judged_by (word_alone_ordered _ _) c.judge_word_alone-judged.ensures) c.in_default.is c.cells_of-cells.ensures.bytes c.entries_of-entries.ensures.bytes c.find_breaks.ensures)
+returns c = promised (word_alone_ordered _ _) (breaks_found _ _ _ _ _ _ _ (judged_by (word_alone_ordered _ _) c.judge_word_alone.ensures) c.in_ok-judge_word_alone.was c.cells_of-cells.ensures.bytes c.entries_of-entries.ensures.bytes c.find_breaks.ensures)

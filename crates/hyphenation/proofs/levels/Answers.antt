@@ -1,13 +1,13 @@
-use Rattle.base.proofs.Grounds.{judged_by}
+use Rattle.base.proofs.Grounds.{judged_by, handed_on}
 use Rattle.hyphenation.proofs.Calls.{refused, levels_sizes, levels_found}
 use Rattle.hyphenation.proofs.Order.{levels_ordered, promised}
 use Rattle.hyphenation.proofs.levels.Goals as goal
 
-pub returns-in-Refused : goal.returns-in-Refused
-returns-in-Refused c = promised (levels_ordered _ _ _) (refused _ _ _ (judged_by (levels_ordered _ _ _) c.judge_levels-judged.ensures) c.in-Refused.is)
+pub returns-in_err-judge_levels : goal.returns-in_err-judge_levels
+returns-in_err-judge_levels c = promised (levels_ordered _ _ _) (refused _ _ _ (judged_by (levels_ordered _ _ _) c.judge_levels.ensures) c.in_err-judge_levels.was (handed_on _ c.from_residual.ensures.1))
 
 pub find_levels-requires : goal.find_levels-requires
-find_levels-requires c = levels_sizes _ _ _ (judged_by (levels_ordered _ _ _) c.judge_levels-judged.ensures) c.in_default.is
+find_levels-requires c = levels_sizes _ _ _ (judged_by (levels_ordered _ _ _) c.judge_levels.ensures) c.in_ok-judge_levels.was
 
 pub returns : goal.returns
-returns c = promised (levels_ordered _ _ _) (levels_found _ _ _ (judged_by (levels_ordered _ _ _) c.judge_levels-judged.ensures) c.in_default.is c.cells_of-cells.ensures.bytes c.entries_of-entries.ensures.bytes c.find_levels.ensures)
+returns c = promised (levels_ordered _ _ _) (levels_found _ _ _ (judged_by (levels_ordered _ _ _) c.judge_levels.ensures) c.in_ok-judge_levels.was c.cells_of-cells.ensures.bytes c.entries_of-entries.ensures.bytes c.find_levels.ensures)

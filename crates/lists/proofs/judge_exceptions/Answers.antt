@@ -1,12 +1,11 @@
-use mathlib.Core.Path.{◌∙◌, ap}
-use Rattle.lists.specs.Lists.{bad_exception}
-use Rattle.base.proofs.Grounds.{said_by, judged_by}
+use mathlib.Core.Path.{◌∙◌}
+use Rattle.base.proofs.Grounds.{said_by, judged_by, handed_on}
 use Rattle.lists.proofs.Order.{exceptions_ordered, size_ordered}
 use Rattle.lists.proofs.Laws.{exceptions_size, exceptions_lines}
 use Rattle.lists.proofs.judge_exceptions.Goals as goal
 
-pub returns-in-Refused : goal.returns-in-Refused
-returns-in-Refused c = said_by (exceptions_ordered _ _ _) (exceptions_size _ _ _ (judged_by (size_ordered _ _) c.judge_size-size.ensures) c.in-Refused.is)
+pub returns-in_err-judge_size : goal.returns-in_err-judge_size
+returns-in_err-judge_size c = said_by (exceptions_ordered _ _ _) (handed_on _ c.from_residual.ensures.1 ∙ exceptions_size _ _ _ (judged_by (size_ordered _ _) c.judge_size.ensures) c.in_err-judge_size.was)
 
 pub returns : goal.returns
-returns c = said_by (exceptions_ordered _ _ _) (c.bad_exception.ensures ∙ ap (bad_exception _) c.judge_lines.ensures ∙ exceptions_lines _ _ _ (judged_by (size_ordered _ _) c.judge_size-size.ensures) c.in_default.is)
+returns c = said_by (exceptions_ordered _ _ _) (c.judge_exception_lines.ensures ∙ exceptions_lines _ _ _ (judged_by (size_ordered _ _) c.judge_size.ensures) c.in_ok-judge_size.was)

@@ -1,19 +1,17 @@
-use mathlib.Core.Path.{◌∙◌, ap, sym}
-use Rattle.base.specs.Limits.{customer_list, house_list}
-use Rattle.lists.specs.Lists.{bad_exception}
-use Rattle.base.proofs.Grounds.{said_by, judged_by}
+use mathlib.Core.Path.{◌∙◌, sym}
+use Rattle.base.proofs.Grounds.{said_by, judged_by, handed_on}
 use Rattle.lists.proofs.Order.{lists_ordered, size_ordered}
 use Rattle.lists.proofs.Laws.{lists_size, lists_size_house, lists_customer, lists_house}
 use Rattle.lists.proofs.judge_lists.Goals as goal
 
-pub returns-in-Refused : goal.returns-in-Refused
-returns-in-Refused c = said_by (lists_ordered _ _) (lists_size _ _ (judged_by (size_ordered _ _) c.judge_size-size.ensures) c.in-Refused.is)
+pub returns-in_err-judge_size : goal.returns-in_err-judge_size
+returns-in_err-judge_size c = said_by (lists_ordered _ _) (handed_on _ c.from_residual.ensures.1 ∙ lists_size _ _ (judged_by (size_ordered _ _) c.judge_size.ensures) c.in_err-judge_size.was)
 
-pub returns-in-Refused-size2 : goal.returns-in-Refused-size2
-returns-in-Refused-size2 c = said_by (lists_ordered _ _) (lists_size_house _ _ (judged_by (size_ordered _ _) c.judge_size-size.ensures) c.in_default.is (judged_by (size_ordered _ _) c.judge_size-size2.ensures) c.in-Refused-size2.is)
+pub returns-in_err-judge_size-2 : goal.returns-in_err-judge_size-2
+returns-in_err-judge_size-2 c = said_by (lists_ordered _ _) (handed_on _ c.from_residual-in_err-judge_size-2.ensures.1 ∙ lists_size_house _ _ (judged_by (size_ordered _ _) c.judge_size.ensures) c.in_ok-judge_size.was (judged_by (size_ordered _ _) c.judge_size-2.ensures) c.in_err-judge_size-2.was)
 
-pub returns-in-Refused-own : goal.returns-in-Refused-own
-returns-in-Refused-own c = said_by (lists_ordered _ _) (lists_customer _ _ (judged_by (size_ordered _ _) c.judge_size-size.ensures) c.in_default.is (judged_by (size_ordered _ _) c.judge_size-size2.ensures) c.in_default-size2.is (sym (c.bad_exception-own.ensures ∙ ap (bad_exception customer_list) c.judge_lines.ensures) ∙ c.in-Refused-own.is))
+pub returns-in_err-judge_exception_lines : goal.returns-in_err-judge_exception_lines
+returns-in_err-judge_exception_lines c = said_by (lists_ordered _ _) (handed_on _ c.from_residual-in_err-judge_exception_lines.ensures.1 ∙ lists_customer _ _ (judged_by (size_ordered _ _) c.judge_size.ensures) c.in_ok-judge_size.was (judged_by (size_ordered _ _) c.judge_size-2.ensures) c.in_ok-judge_size-2.was (sym c.judge_exception_lines.ensures ∙ c.in_err-judge_exception_lines.was))
 
 pub returns : goal.returns
-returns c = said_by (lists_ordered _ _) (c.bad_exception.ensures ∙ ap (bad_exception house_list) c.judge_lines-2.ensures ∙ lists_house _ _ (judged_by (size_ordered _ _) c.judge_size-size.ensures) c.in_default.is (judged_by (size_ordered _ _) c.judge_size-size2.ensures) c.in_default-size2.is (sym (c.bad_exception-own.ensures ∙ ap (bad_exception customer_list) c.judge_lines.ensures) ∙ c.in_default-own.is))
+returns c = said_by (lists_ordered _ _) (c.judge_exception_lines-2.ensures ∙ lists_house _ _ (judged_by (size_ordered _ _) c.judge_size.ensures) c.in_ok-judge_size.was (judged_by (size_ordered _ _) c.judge_size-2.ensures) c.in_ok-judge_size-2.was (sym c.judge_exception_lines.ensures ∙ c.in_ok-judge_exception_lines.was))

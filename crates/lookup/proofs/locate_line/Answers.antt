@@ -4,8 +4,8 @@ use Rattle.lookup.proofs.Order.{lookup_ordered, said_located}
 use Rattle.lookup.proofs.Laws.{locate_refused, locate_found}
 use Rattle.lookup.proofs.locate_line.Goals as goal
 
-pub returns-in-Refused : goal.returns-in-Refused
-returns-in-Refused c = said_located _ _ _ (locate_refused _ _ _ (judged_by (lookup_ordered _ _ _) c.judge_lookup-judged.ensures) c.in-Refused.is)
+pub returns-in-Err : goal.returns-in-Err
+returns-in-Err c = said_located _ _ _ (locate_refused _ _ _ (judged_by (lookup_ordered _ _ _) c.judge_lookup.ensures) c.in-Err.is)
 
-pub returns : goal.returns
-returns c = said_located _ _ _ (c.find_either.ensures ∙ locate_found _ _ _ (judged_by (lookup_ordered _ _ _) c.judge_lookup-judged.ensures) c.in_default.is)
+pub returns-in-Ok : goal.returns-in-Ok
+returns-in-Ok c = said_located _ _ _ (c.find_either.ensures ∙ locate_found _ _ _ (judged_by (lookup_ordered _ _ _) c.judge_lookup.ensures) c.in-Ok.is)

@@ -12,14 +12,14 @@ use Rattle.packer.proofs.pack.Goals as goal
 pub returns-then-is_short : goal.returns-then-is_short
 returns-then-is_short c = promised _ _ (pack_short _ _ (too_short pack_room _ c.is_short.ensures c.if-is_short.true))
 
-pub returns-in-Refused : goal.returns-in-Refused
-returns-in-Refused c = promised _ _ (pack_refused _ _ (long_enough pack_room _ c.is_short.ensures c.if-is_short.false) (sym (judged_by (patterns_ordered _) c.judge_patterns-judged.ensures) ∙ c.in-Refused.is))
+pub returns-in_err-judge_patterns : goal.returns-in_err-judge_patterns
+returns-in_err-judge_patterns c = promised _ _ (pack_refused _ _ (long_enough pack_room _ c.is_short.ensures c.if-is_short.false) (sym (judged_by (patterns_ordered _) c.judge_patterns.ensures) ∙ c.in_err-judge_patterns.was))
 
 pub clear_from-requires : goal.clear_from-requires
 clear_from-requires c = (search rules, long_enough pack_room _ c.is_short.ensures c.if-is_short.false)
 
 pub lay-requires : goal.lay-requires
-lay-requires c = (subst (λ n. pack_room ≤ n) (sym c.clear_from.auto.room) (long_enough pack_room _ c.is_short.ensures c.if-is_short.false), cleared_start c.args.text.now _ (long_enough pack_room _ c.is_short.ensures c.if-is_short.false) c.clear_from.ensures, sym (judged_by (patterns_ordered _) c.judge_patterns-judged.ensures) ∙ c.in_default.is)
+lay-requires c = (subst (λ n. pack_room ≤ n) (sym c.clear_from.auto.room) (long_enough pack_room _ c.is_short.ensures c.if-is_short.false), cleared_start c.args.text.now _ (long_enough pack_room _ c.is_short.ensures c.if-is_short.false) c.clear_from.ensures, sym (judged_by (patterns_ordered _) c.judge_patterns.ensures) ∙ c.in_ok-judge_patterns.was)
 
 pub returns : goal.returns
-returns c = promised _ _ (pack_laid _ _ (long_enough pack_room _ c.is_short.ensures c.if-is_short.false) c.clear_from.ensures (sym (judged_by (patterns_ordered _) c.judge_patterns-judged.ensures) ∙ c.in_default.is) c.lay.ensures)
+returns c = promised _ _ (pack_laid _ _ (long_enough pack_room _ c.is_short.ensures c.if-is_short.false) c.clear_from.ensures (sym (judged_by (patterns_ordered _) c.judge_patterns.ensures) ∙ c.in_ok-judge_patterns.was) c.lay.ensures)

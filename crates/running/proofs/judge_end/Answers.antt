@@ -1,13 +1,14 @@
-use Rattle.base.proofs.Grounds.{said_by, judged_by}
+use mathlib.Core.Path.{◌∙◌}
+use Rattle.base.proofs.Grounds.{said_by, judged_by, handed_on}
 use Rattle.running.proofs.Laws.{end_setting, end_room_lem, end_fine}
 use Rattle.running.proofs.Order.{setting_ordered, end_ordered}
 use Rattle.running.proofs.judge_end.Goals as goal
 
-pub returns-in-Refused : goal.returns-in-Refused
-returns-in-Refused c = said_by (end_ordered _ _ _ _ _ _ _) (end_setting _ _ _ _ _ _ _ (judged_by (setting_ordered _ _ _ _ _) c.judge_setting-setting.ensures) c.in-Refused.is)
+pub returns-in_err-judge_setting : goal.returns-in_err-judge_setting
+returns-in_err-judge_setting c = said_by (end_ordered _ _ _ _ _ _ _) (handed_on _ c.from_residual.ensures.1 ∙ end_setting _ _ _ _ _ _ _ (judged_by (setting_ordered _ _ _ _ _) c.judge_setting.ensures) c.in_err-judge_setting.was)
 
 pub returns-then-is_short : goal.returns-then-is_short
-returns-then-is_short c = said_by (end_ordered _ _ _ _ _ _ _) (end_room_lem _ _ _ _ _ _ _ (judged_by (setting_ordered _ _ _ _ _) c.judge_setting-setting.ensures) c.in_default.is c.is_short.ensures c.if-is_short.true)
+returns-then-is_short c = said_by (end_ordered _ _ _ _ _ _ _) (end_room_lem _ _ _ _ _ _ _ (judged_by (setting_ordered _ _ _ _ _) c.judge_setting.ensures) c.in_ok-judge_setting.was c.is_short.ensures c.if-is_short.true)
 
 pub returns : goal.returns
-returns c = said_by (end_ordered _ _ _ _ _ _ _) (end_fine _ _ _ _ _ _ _ (judged_by (setting_ordered _ _ _ _ _) c.judge_setting-setting.ensures) c.in_default.is c.is_short.ensures c.if-is_short.false)
+returns c = said_by (end_ordered _ _ _ _ _ _ _) (end_fine _ _ _ _ _ _ _ (judged_by (setting_ordered _ _ _ _ _) c.judge_setting.ensures) c.in_ok-judge_setting.was c.is_short.ensures c.if-is_short.false)

@@ -1,17 +1,17 @@
 use borrow.Author.Rules.{rules}
 use mathlib.Core.Bool.{false}
 use mathlib.Core.Path.{sym, ◌∙◌}
-use Rattle.base.proofs.Grounds.{said_by}
+use Rattle.base.proofs.Grounds.{said_by, handed_on}
 use Rattle.words.specs.Words.{letters_alone}
 use Rattle.words.proofs.Order.{letters_ordered}
 use Rattle.words.proofs.Laws.{word_refused, word_scan, letters_pass, letters_stop, fit_end}
 use Rattle.words.proofs.judge_letters.Goals as goal
 
-pub returns-in-Refused : goal.returns-in-Refused
-returns-in-Refused c = said_by (letters_ordered _ _) (word_refused letters_alone _ _ c.judge_length-length.ensures c.in-Refused.is)
+pub returns-in_err-judge_length : goal.returns-in_err-judge_length
+returns-in_err-judge_length c = said_by (letters_ordered _ _) (handed_on _ c.from_residual.ensures.1 ∙ word_refused letters_alone _ _ c.judge_length.ensures c.in_err-judge_length.was)
 
 pub loop-i-init : goal.loop-i-init
-loop-i-init c = (search rules, word_scan letters_alone _ _ c.judge_length-length.ensures c.in_default.is)
+loop-i-init c = (search rules, word_scan letters_alone _ _ c.judge_length.ensures (c.in_ok-judge_length.was))
 
 pub returns-then-not-is_letter : goal.returns-then-not-is_letter
 returns-then-not-is_letter c = said_by (letters_ordered _ _) (sym (c.loop-i.invariant.1 ∙ letters_stop _ _ c.loop-i-test.true (sym c.is_letter.ensures ∙ c.if-not-is_letter.true)))

@@ -1,16 +1,16 @@
 use borrow.Author.Rules.{rules}
 use mathlib.Core.Path.{sym, ◌∙◌}
-use Rattle.base.proofs.Grounds.{said_by}
+use Rattle.base.proofs.Grounds.{said_by, handed_on}
 use Rattle.words.specs.Words.{with_apostrophes}
 use Rattle.words.proofs.Order.{word_ordered}
 use Rattle.words.proofs.Laws.{word_refused, word_scan, word_start, word_letter, word_between, word_stop, fit_end}
 use Rattle.words.proofs.judge_word.Goals as goal
 
-pub returns-in-Refused : goal.returns-in-Refused
-returns-in-Refused c = said_by (word_ordered _ _) (word_refused with_apostrophes _ _ c.judge_length-length.ensures c.in-Refused.is)
+pub returns-in_err-judge_length : goal.returns-in_err-judge_length
+returns-in_err-judge_length c = said_by (word_ordered _ _) (handed_on _ c.from_residual.ensures.1 ∙ word_refused with_apostrophes _ _ c.judge_length.ensures c.in_err-judge_length.was)
 
 pub loop-i-init : goal.loop-i-init
-loop-i-init c = (search rules, word_scan with_apostrophes _ _ c.judge_length-length.ensures c.in_default.is ∙ word_start _)
+loop-i-init c = (search rules, word_scan with_apostrophes _ _ c.judge_length.ensures (c.in_ok-judge_length.was) ∙ word_start _)
 
 pub loop-i-preserved-then-is_letter : goal.loop-i-preserved-then-is_letter
 loop-i-preserved-then-is_letter c = (search rules, c.loop-i.invariant.1 ∙ word_letter _ _ c.loop-i-test.true (sym c.is_letter.ensures ∙ c.if-is_letter.true))
