@@ -12,7 +12,7 @@ use lib.ListN.{length, get_or, take, drop, replicate, get_or-replicate, drop_of_
 use lib.Seq.{take-nil}
 use Rattle.base.specs.Limits.{symbol_limit, pattern_limit, level_limit, room_size}
 use Rattle.base.specs.Grounds.{refuse_if}
-use Rattle.std.specs.Prelude.{Ok, Err, Some, None, Option}
+use Rattle.std.specs.Prelude.{Ok, Err, Some, None, Option, is_some}
 use Rattle.base.specs.declared.Ground.TheVariants.{NotRight}
 use Rattle.base.proofs.Lists.{cons_at, both}
 use Rattle.words.specs.Symbols.{small, digit, symbol_of, symbols_of}
@@ -206,11 +206,11 @@ module _ (cells : List ℕ) (node : Node) where
   none_start low high = rw add-one
 
   module _ (e : node.leaf ≡ false) (s : ℕ) {l : Look} (p : l ≡ look cells (node.base + s) s) where
-    pub free_hit : {link output : ℕ} → l ≡ hit link output → free s ≡ false
-    free_hit q = ap (λ (k : Look). not (is_hit k)) (sym (child_look cells node s e p) ∙ q)
+    pub free_hit : is_some l ≡ true → free s ≡ false
+    free_hit q = ap (λ (k : Look). not (is_hit k)) (sym (child_look cells node s e p)) ∙ ap not q
 
-    pub free_miss : l ≡ None → free s ≡ true
-    free_miss q = ap (λ (k : Look). not (is_hit k)) (sym (child_look cells node s e p) ∙ q)
+    pub free_miss : is_some l ≡ false → free s ≡ true
+    free_miss q = ap (λ (k : Look). not (is_hit k)) (sym (child_look cells node s e p)) ∙ ap not q
 
 -- the symbols that the list passes over, below the line's own and above it
 module _ (cells : List ℕ) (beside : Beside) (node : Node) (m s : ℕ) where

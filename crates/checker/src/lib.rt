@@ -15,7 +15,7 @@ ghost use Rattle.checker.specs.Post.{same_levels};
 
 use base::Ground;
 use rightness::{Beside, Node};
-use table::{Entry, Look};
+use table::{Cell, Entry};
 
 // The kinds of so many records that stand size bytes apart.
 fn are_kinds(bytes: &[u8], size: usize, kind: u8, count: u16) -> bool
@@ -52,12 +52,11 @@ fn is_sound(entries: &&[u8], k: u16, m: usize) -> bool
     if k == 0 {
         return true;
     }
-    let entry = table::entry_at(*entries, k);
-    let Entry::Has {
+    let Some(Entry {
         distance,
         level,
         next,
-    } = entry
+    }) = table::entry_at(*entries, k)
     else {
         return false;
     };
@@ -124,8 +123,7 @@ fn is_none_between(cells: &[u8], node: Node, low: u8, high: u8) -> bool
     }
     let mut symbol = low as u16 + 1;
     while symbol < high as u16 {
-        let found = table::look_at(cells, node.base, symbol as u8);
-        if let Look::Hit { link: _, output: _ } = found {
+        if table::look_at(cells, node.base, symbol as u8).is_some() {
             return false; // a path that the list hasn't
         }
         symbol += 1;
@@ -174,15 +172,14 @@ fn is_followed(cells: &[u8], entries: &[u8], root: u16, own: &[u8], beside: Besi
             if node.leaf {
                 return false;
             }
-            let found = table::look_at(cells, node.base, symbol);
-            let Look::Hit { link, output: next } = found else {
+            let Some(cell) = table::look_at(cells, node.base, symbol) else {
                 return false;
             };
             node = Node {
-                leaf: link == 0,
-                base: link,
+                leaf: cell.link == 0,
+                base: cell.link,
             };
-            output = next;
+            output = cell.output;
             m += 1;
         }
     }

@@ -18,7 +18,7 @@ use Rattle.patterns.specs.Strings.{Beginning, no_pattern, nth, Sorted}
 use Rattle.rightness.specs.Test.{is_hit}
 use Rattle.patterns.proofs.Strings.{begins_above, begins_snoc, begins_init, begins_next}
 use Rattle.patterns.proofs.Sorted.{above, New, new_at, next_at, stand_together, next_ascends}
-use Rattle.decision.proofs.Nodes.{None, next_of, Passed}
+use Rattle.decision.proofs.Nodes.{NoneOn, next_of, Passed}
 
 module _ (patterns : List Pattern) (cells : List ℕ) (root : ℕ) where
   -- "every beginning is a path and every path is one", one symbol behind u
@@ -31,10 +31,10 @@ module _ (patterns : List Pattern) (cells : List ℕ) (root : ℕ) where
 
   -- and the list's end, at the root
   abbrev pub Ended : Type 0
-  Ended = None cells root [] (get_or (above [] patterns (length patterns)) 0 0) (suc symbol_limit)
+  Ended = NoneOn cells root [] (get_or (above [] patterns (length patterns)) 0 0) (suc symbol_limit)
 
   -- the list's last pattern is the last that has u; for the root the list's end says so
-  over_last : Ended → (u : List ℕ) (i : ℕ) → suc i ≡ length patterns → PassedAt u i → None cells root u (next_at patterns u i) (suc symbol_limit)
+  over_last : Ended → (u : List ℕ) (i : ℕ) → suc i ≡ length patterns → PassedAt u i → NoneOn cells root u (next_at patterns u i) (suc symbol_limit)
   unfolding begins
   over_last ended [] i e p = rw (← e) at ended
   over_last ended (x ∷ u) i e p = let h : length patterns ≤ suc i = omega arith in p.over (rw (get_or-eq_default patterns no_pattern h))

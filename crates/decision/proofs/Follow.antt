@@ -11,7 +11,7 @@ use lib.Dec.{leb, eqb}
 use lib.ListN.{length, get_or, take, drop, get_or-eq_default}
 use lib.Seq.{take-suc, drop-cons, take-length, drop-length, length-take-le}
 use Rattle.base.specs.Limits.{symbol_limit, pattern_limit}
-use Rattle.table.specs.Table.{Look, hit}
+use Rattle.table.specs.Table.{Look}
 use Rattle.std.specs.Prelude.{Some, None}
 use Rattle.liang.specs.Patterns.{Pattern}
 use Rattle.liang.specs.Levels.{begins}

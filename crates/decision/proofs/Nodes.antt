@@ -9,7 +9,7 @@ use lib.Dec.{leb, ltb, eqb}
 use lib.ListN.{length, get_or}
 use Rattle.base.specs.Limits.{symbol_limit}
 use Rattle.base.proofs.Lists.{never, both, untrue}
-use Rattle.table.specs.Table.{look, Look, hit}
+use Rattle.table.specs.Table.{look, Look}
 use Rattle.std.specs.Prelude.{Some, None}
 use Rattle.liang.specs.Levels.{begins}
 use Rattle.patterns.specs.Common.{common}
@@ -71,18 +71,18 @@ module _ (cells : List ℕ) (root : ℕ) where
       go (Some found) = refl
 
   -- behind a string the table goes on with no symbol between two others
-  abbrev pub None : List ℕ → ℕ → ℕ → Type 0
-  None u low high = (s : ℕ) → low < s → s < high → is_hit (along cells root (u ++ (s ∷ []))) ≡ true → ⊥
+  abbrev pub NoneOn : List ℕ → ℕ → ℕ → Type 0
+  NoneOn u low high = (s : ℕ) → low < s → s < high → is_hit (along cells root (u ++ (s ∷ []))) ≡ true → ⊥
 
   misses : List ℕ → ℕ → Bool
   misses u s = not (is_hit (child_at cells (node_at u) s))
 
-  pub none_each : (u : List ℕ) (low high : ℕ) → none_between cells (node_at u) low high ≡ true → None u low high
+  pub none_each : (u : List ℕ) (low high : ℕ) → none_between cells (node_at u) low high ≡ true → NoneOn u low high
   unfolding none_between misses
   none_each u low high e s h k t =
       never (sym (not-true _ (all_each (misses u) (suc low) (high - suc low) e s h (omega arith))) ∙ ap is_hit (child_along u s) ∙ t)
 
-  pub each_none : (u : List ℕ) (low high : ℕ) → None u low high → none_between cells (node_at u) low high ≡ true
+  pub each_none : (u : List ℕ) (low high : ℕ) → NoneOn u low high → none_between cells (node_at u) low high ≡ true
   unfolding none_between misses
   each_none u low high n = each_all (misses u) (suc low) (high - suc low) (λ s h k. rw (child_along u s, untrue (is_hit (along cells root (u ++ (s ∷ [])))) (n s h (omega arith))))
 
@@ -94,8 +94,8 @@ next_of u a = cond (begins u a) (get_or a (length u) 0) 0
 -- its own where the pattern below has not u. The test asks for them by what the patterns have in common.
 module _ (cells : List ℕ) (root : ℕ) (u above own below : List ℕ) where
   pub record Passed : Type 0 where
-    pub under : None cells root u (next_of u above) (get_or own (length u) 0)
-    pub over : begins u below ≡ false → None cells root u (get_or own (length u) 0) (suc symbol_limit)
+    pub under : NoneOn cells root u (next_of u above) (get_or own (length u) 0)
+    pub over : begins u below ≡ false → NoneOn cells root u (get_or own (length u) 0) (suc symbol_limit)
 
   abbrev low : ℕ
   low = cond (eqb (length u) (common above own)) (get_or above (common above own) 0) 0
@@ -127,7 +127,7 @@ module _ (cells : List ℕ) (root : ℕ) (u above own below : List ℕ) where
         record { under = go (ltb (length u) (common above own)) refl p.0; over = λ e. none_each cells root u _ _ (rw (sym (begins_shared u own below stands) ∙ e) at p.1) }
       where
         go : (z : Bool) → ltb (length u) (common above own) ≡ z → (z || none_between cells (node_at cells root u) low (get_or own (length u) 0)) ≡ true
-            → None cells root u (next_of u above) (get_or own (length u) 0)
+            → NoneOn cells root u (next_of u above) (get_or own (length u) 0)
         go true e t = λ s h k. absurd (omega (arith, alike_next (ltb-true (length u) (common above own) e)))
         go false e t = rw (low_next (ltb-false (length u) (common above own) e)) at (none_each cells root u _ _ t)
 

@@ -29,7 +29,7 @@ record Ends (found : Look) : Type 0 where
 
 ends : (found : Look) → is_hit found ≡ true → Ends found
 ends None e = never e
-ends (Some found) e = record { found.link = found.link; found.output = found.output; same = refl }
+ends (Some found) e = record { link = found.link; output = found.output; same = refl }
 
 -- what ends further on has ended before
 onward_hit : (go : ℕ → Look) (found : Look) → is_hit (onward go found) ≡ true → is_hit found ≡ true

@@ -6,7 +6,7 @@ use mathlib.Core.Logic.{◌↔◌}
 use mathlib.Core.Path.{◌≡◌}
 use borrow.Author.Tests.{not-false}
 use Rattle.base.specs.Grounds.{first, refuse_if}
-use Rattle.std.specs.Prelude.{Ok, Err}
+use Rattle.std.specs.Prelude.{Ok}
 use Rattle.base.specs.declared.Ground.TheVariants.{NotRight}
 use Rattle.base.proofs.Grounds.{both_fine, not_refused}
 use Rattle.lists.specs.Lists.{judge_patterns}

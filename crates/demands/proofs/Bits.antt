@@ -56,14 +56,10 @@ use Rattle.states.specs.Bytes.{state_size, of_bytes}
 use Rattle.states.proofs.Theorems.{read_left_state}
 use Rattle.states.proofs.Bytes.{bytes_wide}
 use Rattle.flowing.specs.Output.{piece_text, piece_looks, end_text, end_looks}
-use Rattle.running.specs.Calls.{passes_end, short_for, judge_setting, judge_piece, judge_end, held_now, total_now, text_answer, judged_piece, piece_answer, judged_end, end_answer}
-use Rattle.running.specs.declared.TextAnswer.{TextAnswer}
-use Rattle.running.specs.declared.TextAnswer.TheVariants as texts
+use Rattle.running.specs.Calls.{passes_end, short_for, judge_setting, judge_piece, judge_end, held_now, total_now, text_answer, judged_piece, piece_answer, judged_end, end_answer, TextAnswer, written}
 use Rattle.running.proofs.Theorems.{answered_short}
 use Rattle.running.proofs.Sizes.{piece_fits, end_fits, piece_count, end_count}
-use Rattle.packer.specs.declared.Packing.{Packing}
-use Rattle.packer.specs.declared.Packing.TheVariants as packings
-use Rattle.packer.specs.Pack.{judge_pack, packing, pack_answer}
+use Rattle.packer.specs.Pack.{Packing, judge_pack, packing, pack_answer}
 use Rattle.tteolmigu.specs.Bits.{refusal_bits, line_bits, answer_bits, packing_bits, check_bits, located_bits, fit_bits, bits1980, text_bits, text_length_in, number_in, list_in, place_in, marks_in, looks_in, size_in, offset_in, length_in, outcome_in, gap_in, ran_out_in, breaks_in, executed_in}
 use Rattle.tteolmigu.proofs.Read.{told_number, told_list, told_place, found_number, found_marks, found_looks, size_number, size_size, line_number, line_list, line_offset, line_length_lem, fitting_number, fitting_outcome, fitting_gap, reprint_number, reprint_ran_out, reprint_breaks, reprint_executed, written_number, written_length, written_looks}
 use Rattle.demands.proofs.Packed.{judged_patterns, fit_accepted}
@@ -308,8 +304,8 @@ accepted_short text table e =
 
 -- The packer's bits say what it answers.
 pub ReadsPacking : Packing → ℕ → Type 0
-ReadsPacking (packings.Done size) bits = (number_in bits ≡ 0) × (size_in bits ≡ size)
-ReadsPacking (packings.Refused g) bits = ReadsRefusal g bits
+ReadsPacking (Ok size) bits = (number_in bits ≡ 0) × (size_in bits ≡ size)
+ReadsPacking (Err g) bits = ReadsRefusal g bits
 
 pub pack_bits : (text : List ℕ) (size : ℕ) → ReadsPacking (pack_answer text size) (packing_bits (pack_answer text size))
 unfolding SmallCheck ReadsPacking
@@ -450,8 +446,8 @@ bits_1980 word size = go (judge1980 word size) refl (small_1980 word size) (orde
 
 -- The bits of CR 6's calls say what they answer: the length of the text written and the count, or the refusal.
 pub ReadsText : TextAnswer → ℕ → Type 0
-ReadsText (texts.Written length looks) bits = (number_in bits ≡ 0) × (text_length_in bits ≡ length) × (looks_in bits ≡ looks)
-ReadsText (texts.Refused g) bits = ReadsRefusal g bits
+ReadsText (Ok w) bits = (number_in bits ≡ 0) × (text_length_in bits ≡ w.length) × (looks_in bits ≡ w.looks)
+ReadsText (Err g) bits = ReadsRefusal g bits
 
 setting_small : (left right : ℕ) (customer house table : List ℕ) → SmallCheck (judge_setting left right customer house table)
 unfolding judge_setting

@@ -1,6 +1,7 @@
 -- Demand 1: "every call ends with an answer or a numbered refusal. The numbers, their order, and what each leaves in the memory we
 -- lent are those of document 01, and none is given on other grounds." For each call: its order is document 01's, it finds exactly
 -- where none of these grounds holds, a refusal tells the first that holds, and what is left in lent memory then.
+use Rattle.std.specs.Prelude.{Result}
 use Prim.Native.Nat.{ℕ}
 use mathlib.Core.Bool.{Bool, true, false, cond}
 use mathlib.Core.List.{List, []}
@@ -27,6 +28,7 @@ use Rattle.packer.specs.Pack.{pack_grounds, fit_bytes, packing_said, pack_said, 
 use Rattle.packer.specs.declared.Packing.{Packing}
 use Rattle.gauge.specs.Fit.{fit_grounds, fit_said, fit_answer}
 use Rattle.gauge.specs.declared.Gauge.{Gauge}
+use Rattle.base.specs.declared.Ground.{Ground}
 use Rattle.gauge.specs.declared.Fitting.{Fitting}
 use Rattle.states.specs.declared.TextState.{TextState}
 use Rattle.running.specs.Calls.{setting_grounds, piece_grounds, end_grounds, text_said, text_left, state_left, Gives, total_now, Pieces, Ends}
@@ -128,7 +130,7 @@ pub fit_order_lem : (g : Gauge) (widths : List Float) (word : List ℕ) (size : 
 unfolding fit_grounds grounds_by
 fit_order_lem g widths word size = refl
 
-pub fit_numbered : (g : Gauge) (widths : List Float) (word room : List ℕ) (r : Fitting) → fit_said r ≡ fit_answer g widths word room → Numbered fit_order (fit_grounds g widths word (length room)) (fit_said r)
+pub fit_numbered : (g : Gauge) (widths : List Float) (word room : List ℕ) (r : Result Fitting Ground) → fit_said r ≡ fit_answer g widths word room → Numbered fit_order (fit_grounds g widths word (length room)) (fit_said r)
 unfolding fit_answer
 fit_numbered g widths word room r p = numbered fit_order _ _ (fit_said r) (fit_order_lem g widths word (length room)) p
 

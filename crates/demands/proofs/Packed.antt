@@ -24,10 +24,8 @@ use Rattle.layout.specs.Bases.{cells_needed}
 use Rattle.layout.specs.Entries.{entries_needed}
 use Rattle.layout.specs.Table.{layout_table}
 use Rattle.layout.proofs.Theorems.{no_room_exactly, packed_is_layout}
-use Rattle.packer.specs.declared.Packing.{Packing}
-use Rattle.packer.specs.declared.Packing.TheVariants as packings
+use Rattle.packer.specs.Pack.{Packing, packing_said, judge_pack, packing, packed_after, Packs}
 use Rattle.packer.proofs.Order.{early_number, computed}
-use Rattle.packer.specs.Pack.{packing_said, judge_pack, packing, packed_after, Packs}
 
 pub judged_patterns : (text : List ℕ) (size : ℕ) → judge_pack text size ≡ Ok tt → judge_patterns text ≡ Ok tt
 unfolding judge_pack
@@ -41,14 +39,14 @@ fit_accepted text table fine e =
 
 -- "Where no ground of its own holds, our packer finishes document 01's first-fit table"
 pub packer_finishes : (text room after table : List ℕ) {r : Packing} → Packs text room r after → judge_pack text (length room) ≡ Ok tt → first_fit (patterns_of text) ≡ Packed table
-    → (r ≡ packings.Done (length table)) × (take (length table) after ≡ table)
+    → (r ≡ Ok (length table)) × (take (length table) after ≡ table)
 packer_finishes text room after table p j f = ((computed text room p).answered ∙ rw (j, f), ap (take (length table)) ((computed text room p).memory ∙ rw (j, f)) ∙ filled_begins pack_room table room)
 
 -- "and every table it finishes is accepted with its list"
-pub packed_accepted : (text room after : List ℕ) (size : ℕ) → Packs text room (packings.Done size) after → judge_check text (take size after) ≡ Ok tt
+pub packed_accepted : (text room after : List ℕ) (size : ℕ) → Packs text room (Ok size) after → judge_check text (take size after) ≡ Ok tt
 packed_accepted text room after size p = go (judge_pack text (length room)) refl (first_fit (patterns_of text)) refl (computed text room p).answered (computed text room p).memory
   where
-    go : (v : Check) → judge_pack text (length room) ≡ v → (fit : Fit) → first_fit (patterns_of text) ≡ fit → packings.Done size ≡ packing v fit → after ≡ packed_after v fit room
+    go : (v : Check) → judge_pack text (length room) ≡ v → (fit : Fit) → first_fit (patterns_of text) ≡ fit → Ok size ≡ packing v fit → after ≡ packed_after v fit room
         → judge_check text (take size after) ≡ Ok tt
     go (Err g) j fit f a m = clash cc
     go (Ok _) j NoRoom f a m = clash cc
@@ -62,11 +60,11 @@ module _ (text : List ℕ) (fine : judge_patterns text ≡ Ok tt) where
   text_no_room = no_room_exactly (patterns_of text) (good_sorted text fine) (good_patterns text fine) (good_levels text fine)
 
 -- "The packer writes exactly the first-fit table for a list": what it finishes is the layout, byte for byte.
-pub packer_writes : (text room after : List ℕ) (size : ℕ) → Packs text room (packings.Done size) after
+pub packer_writes : (text room after : List ℕ) (size : ℕ) → Packs text room (Ok size) after
     → (size ≡ length (layout_table (patterns_of text))) × (take size after ≡ layout_table (patterns_of text))
 packer_writes text room after size p = go (judge_pack text (length room)) refl (first_fit (patterns_of text)) refl (computed text room p).answered
   where
-    go : (v : Check) → judge_pack text (length room) ≡ v → (fit : Fit) → first_fit (patterns_of text) ≡ fit → packings.Done size ≡ packing v fit
+    go : (v : Check) → judge_pack text (length room) ≡ v → (fit : Fit) → first_fit (patterns_of text) ≡ fit → Ok size ≡ packing v fit
         → (size ≡ length (layout_table (patterns_of text))) × (take size after ≡ layout_table (patterns_of text))
     go (Err g) j fit f a = clash cc
     go (Ok _) j NoRoom f a = clash cc
@@ -90,13 +88,13 @@ packer_no_room text room after r p = (λ e. only (judge_pack text (length room))
     only : (v : Check) → judge_pack text (length room) ≡ v → (fit : Fit) → first_fit (patterns_of text) ≡ fit → packing_said r ≡ Refuses (plain 11)
         → (judge_pack text (length room) ≡ Ok tt) × ((cell_limit < cells_needed (patterns_of text)) ⊎ (entry_limit < entries_needed (patterns_of text)))
     only (Err g) j fit f e =
-        let a : r ≡ packings.Refused g = answered ∙ rw j in
+        let a : r ≡ Err g = answered ∙ rw j in
         let n : (told g).number ≡ 11 = ap (λ (t : Told). t.number) (refuses_once (sym (ap packing_said a) ∙ e)) in
         never (sym (early_number text (length room) g j) ∙ eq-eqb (told g).number 11 n)
     only (Ok _) j NoRoom f e = (j, (text_no_room text (judged_patterns text (length room) j)).0 f)
-    only (Ok _) j (Packed table) f e = let a : r ≡ packings.Done (length table) = answered ∙ rw (j, f) in no_refusal (sym (ap packing_said a) ∙ e)
+    only (Ok _) j (Packed table) f e = let a : r ≡ Ok (length table) = answered ∙ rw (j, f) in no_refusal (sym (ap packing_said a) ∙ e)
 
     when : judge_pack text (length room) ≡ Ok tt → (cell_limit < cells_needed (patterns_of text)) ⊎ (entry_limit < entries_needed (patterns_of text)) → packing_said r ≡ Refuses (plain 11)
     when j h =
-        let a : r ≡ packings.Refused NoFit = answered ∙ rw (j, (text_no_room text (judged_patterns text (length room) j)).1 h) in
+        let a : r ≡ Err NoFit = answered ∙ rw (j, (text_no_room text (judged_patterns text (length room) j)).1 h) in
         ap packing_said a

@@ -16,10 +16,11 @@ use Rattle.table.specs.Table.{root_base, cells_of, entries_of}
 use Rattle.hyphenation.specs.Levels.{level_at}
 use Rattle.hyphenation.specs.Breaks.{is_break}
 use Rattle.hyphenation.specs.Calls.{Breaks, found}
-use Rattle.std.specs.Prelude.{Ok, Err}
+use Rattle.std.specs.Prelude.{Ok, Err, Result}
 use Rattle.gauge.specs.Fit.{break_found, fit_said, fit_answer}
 use Rattle.gauge.specs.Strip.{IsBreak}
 use Rattle.gauge.specs.declared.Gauge.{Gauge}
+use Rattle.base.specs.declared.Ground.{Ground}
 use Rattle.gauge.specs.declared.Fitting.{Fitting}
 use Rattle.gauge.proofs.Theorems.{fit_break}
 use Rattle.demands.proofs.Breaks.{judged_parts, byte_is}
@@ -46,6 +47,6 @@ module _ (left right : ℕ) (word customer house table room after : List ℕ) (m
       back h e z = (set_bit _).1 e (sym (at h) ∙ z)
 
   -- So a break that is told is a break of the word.
-  pub told_is_break : (g : Gauge) (widths : List Float) (r : Fitting) (i : ℕ) → fit_said r ≡ fit_answer g widths word after → fit_said r ≡ Finds (break_found i)
+  pub told_is_break : (g : Gauge) (widths : List Float) (r : Result Fitting Ground) (i : ℕ) → fit_said r ≡ fit_answer g widths word after → fit_said r ≡ Finds (break_found i)
       → is_break left right customer house (level_at (cells_of table) (entries_of table) root_base word) word i ≡ true
   told_is_break g widths r i p e = ((breaks_read i).0 ((fit_break g widths word after r p i).0 e).2.is_break_lem).2

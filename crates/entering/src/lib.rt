@@ -8,11 +8,11 @@ ghost use Rattle.table.specs.Table.{entry_size, entry_room};
 ghost use Rattle.fit.specs.Entries as fit;
 ghost use Rattle.entering.specs.Post.{as_entries, count_of};
 
-// How many entries there are now, and the number of the one made or found last; or that there are too many.
+// How many entries there are now, and the number of the one made or found last.
 #[derive(Clone, Copy)]
-pub enum Entered {
-    Made { count: u16, last: u16 },
-    TooMany,
+pub struct Made {
+    pub count: u16,
+    pub last: u16,
 }
 
 // Does the entry at a place hold these three numbers?
@@ -60,18 +60,15 @@ fn put_entry(bytes: &mut [u8], at: usize, distance: u8, level: u8, next: u16)
     table::put_number(bytes, at + 3, next);
 }
 
-// One entry: an equal earlier one is used again, else one more is made.
-fn enter(bytes: &mut [u8], count: u16, next: u16, distance: u8, level: u8) -> Entered
+// One entry: an equal earlier one is used again, else one more is made; nothing where there are too many.
+fn enter(bytes: &mut [u8], count: u16, next: u16, distance: u8, level: u8) -> Option<Made>
     requires { (length bytes.old ≡ entry_room) × (count ≤ entry_limit) }
     ensures next_value { fit.enter distance level (fit.Made bytes.old count next) ≡ as_entries bytes.new result }
     ensures result_bound { count_of result ≤ entry_limit }
 {
     let found = find_entry(bytes, count, distance, level, next);
     if found != 0 {
-        return Entered::Made {
-            count: count,
-            last: found,
-        };
+        return Some(Made { count, last: found });
     }
     if (count as usize) < base::ENTRY_LIMIT {
         put_entry(
@@ -82,17 +79,17 @@ fn enter(bytes: &mut [u8], count: u16, next: u16, distance: u8, level: u8) -> En
             next,
         );
         let more = count + 1;
-        return Entered::Made {
+        return Some(Made {
             count: more,
             last: more,
-        };
+        });
     }
-    Entered::TooMany
+    None
 }
 
 // The chain of a pattern line of m symbols: its nonzero levels from the smallest distance up. Where there are too
 // many entries, what the room holds is left open; its size stays.
-pub fn enter_levels(bytes: &mut [u8], count: u16, line: &[u8], m: u8) -> Entered
+pub fn enter_levels(bytes: &mut [u8], count: u16, line: &[u8], m: u8) -> Option<Made>
     requires { (length bytes.old ≡ entry_room) × (count ≤ entry_limit) × (m ≤ pattern_limit) }
     ensures count_value { fit.enter_levels (levels_from 0 line.now) m 0 (suc m) (fit.Made bytes.old count 0) ≡ as_entries bytes.new result }
     ensures result_bound { count_of result ≤ entry_limit }
@@ -106,20 +103,10 @@ pub fn enter_levels(bytes: &mut [u8], count: u16, line: &[u8], m: u8) -> Entered
         let distance = d;
         d += 1;
         if level != 0 {
-            let step = enter(bytes, made, last, distance, level);
-            let Entered::Made {
-                count: more,
-                last: number,
-            } = step
-            else {
-                return Entered::TooMany;
-            };
-            made = more;
-            last = number;
+            let step = enter(bytes, made, last, distance, level)?;
+            made = step.count;
+            last = step.last;
         }
     }
-    Entered::Made {
-        count: made,
-        last: last,
-    }
+    Some(Made { count: made, last })
 }

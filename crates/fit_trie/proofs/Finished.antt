@@ -10,7 +10,7 @@ use borrow.Author.Tests.{eqb-true, eqb-false, le-leb}
 use lib.ListN.{length, get_or, set, take, drop, length-set, length-append, get_or-eq_default}
 use lib.Seq.{get_or-set_same, get_or-set_other, get_or-take, get_or-drop, length-take-le, take_at, drop_at, drop-drop}
 use Rattle.base.specs.Limits.{cell_limit, entry_limit}
-use Rattle.std.specs.Prelude.{Ok, Err}
+use Rattle.std.specs.Prelude.{Ok}
 use Rattle.table.specs.Table.{cell_kind, entry_kind, head_size, cell_size, cell_room, entry_size, number_at, cell_count, judge_table, cells_from, entries_from, cells_of, entries_of}
 use Rattle.table.proofs.Laws.{fine_table}
 use Rattle.fit.specs.Cells.{is_free, used_from}

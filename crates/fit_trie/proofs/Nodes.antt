@@ -12,8 +12,8 @@ use lib.ListN.{length, get_or}
 use Rattle.base.specs.Limits.{symbol_limit, cell_limit}
 use Rattle.base.proofs.Lists.{clash}
 use Rattle.table.specs.Table.{cell_kind, cell_size, cell_room, look, Look, hit}
-use Rattle.std.specs.Prelude.{Some, None}
-use Rattle.table.proofs.Laws.{look_hit}
+use Rattle.std.specs.Prelude.{None}
+use Rattle.table.proofs.Laws.{look_hit, links_once}
 use Rattle.trie.specs.Paths.{onward, along}
 use Rattle.patterns.specs.Strings.{all_symbols}
 use Rattle.fit.specs.Cells.{cell_of}
@@ -249,10 +249,10 @@ module _ (site : Site) (nodes : List Node) (bytes : List ℕ) (tree : Tree site 
           go c =
               let i = onward_from _ _ l o (sym (along_further bytes c.front site.root c.last s) ∙ ap (λ (u : List ℕ). along bytes site.root (u ▸ s)) (sym c.same) ∙ e) in
               let f = alphabet_last (c.front ▸ c.last) s (subst (λ (u : List ℕ). all_symbols (u ▸ s) ≡ true) c.same a) in
-              let b = next c.front c.last i.from i.past (omega (arith, snoc_length c.front c.last, ap length c.same)) f.2 i.hit in
-              let g = ap (λ (u : List ℕ). along bytes site.root u) (sym b.same) ∙ i.hit in
+              let b = next c.front c.last i.from i.past (omega (arith, snoc_length c.front c.last, ap length c.same)) f.2 i.looked in
+              let g = ap (λ (u : List ℕ). along bytes site.root u) (sym b.same) ∙ i.looked in
               let k = along_goes b.at b.inside b.last b.goes in
-              let q : i.from ≡ link_in bytes (cell_behind nodes _ b) = cc in
+              let q : i.from ≡ link_in bytes (cell_behind nodes _ b) = links_once (sym g ∙ k) in
               found c b i f.0 q (search_node nodes ((node nodes b.at).path ▸ b.last))
             where
               found : (c : Ended (y ∷ v)) (b : Behind nodes (c.front ▸ c.last)) (i : Onward (λ n. look bytes (n + s) s) (along bytes site.root (c.front ▸ c.last)) l o) → 1 ≤ s

@@ -54,7 +54,7 @@ onward_hit go l o h = skip (eqb l 0) refl
 pub record Onward (go : ℕ → Look) (found : Look) (link output : ℕ) : Type 0 where
   pub from : ℕ
   pub past : ℕ
-  pub hit : found ≡ hit from past
+  pub looked : found ≡ hit from past
   pub some : from ≡ 0 → ⊥
   pub goes : go from ≡ hit link output
 
@@ -65,4 +65,4 @@ onward_from go (Some found) link output e = split (eqb found.link 0) refl e
   where
     split : (z : Bool) → eqb found.link 0 ≡ z → cond z None (go found.link) ≡ hit link output → Onward go (hit found.link found.output) link output
     split true p q = clash cc
-    split false p q = record { from = found.link; past = found.output; hit = refl; some = eqb-false found.link 0 p; goes = q }
+    split false p q = record { from = found.link; past = found.output; looked = refl; some = eqb-false found.link 0 p; goes = q }

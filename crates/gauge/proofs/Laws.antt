@@ -200,7 +200,7 @@ module _ (g : Gauge) (widths : List Float) (word room : List ℕ) where
       unfolding whole_fits
       whole = f ∙ ap (fits_in g.line) (width_more ∙ ap (width_to widths word) end)
 
-      pub found_whole : z ≡ true → fit_said fittings.Whole ≡ Finds (fit_values g widths word room)
+      pub found_whole : z ≡ true → fit_said (Ok fittings.Whole) ≡ Finds (fit_values g widths word room)
       unfolding fit_said fit_values
       found_whole e = rw (sym whole ∙ e)
 
@@ -208,11 +208,11 @@ module _ (g : Gauge) (widths : List Float) (word room : List ℕ) where
       unfolding fit_values
       by_break e = let k : i ≡ length word - 1 = omega arith in rw (sym whole ∙ e, m.last, k)
 
-      pub found_none : z ≡ false → found ≡ 0 → fit_said fittings.Nowhere ≡ Finds (fit_values g widths word room)
+      pub found_none : z ≡ false → found ≡ 0 → fit_said (Ok fittings.Nowhere) ≡ Finds (fit_values g widths word room)
       unfolding fit_said
       found_none e n = ap (λ (k : ℕ). Finds (break_or_none k)) (sym n) ∙ by_break e
 
-      pub found_break : z ≡ false → (found ≡ 0 → ⊥) → fit_said (fittings.Break found) ≡ Finds (fit_values g widths word room)
+      pub found_break : z ≡ false → (found ≡ 0 → ⊥) → fit_said (Ok (fittings.Break found)) ≡ Finds (fit_values g widths word room)
       unfolding fit_said
       found_break e n = some found n ∙ by_break e
         where

@@ -7,7 +7,7 @@ use lib.Ieee.{Float}
 use lib.ListN.{length}
 use Rattle.base.specs.Limits.{room_size, word_limit}
 use Rattle.base.specs.Grounds.{Said, Finds, says, first_of, Check}
-use Rattle.std.specs.Prelude.{Ok, Err}
+use Rattle.std.specs.Prelude.{Ok, Err, Result}
 use Rattle.base.specs.declared.Ground.{Ground}
 use Rattle.base.specs.declared.Ground.TheVariants.{RoomShort, BadWidth}
 use Rattle.base.proofs.Grounds.{Ordered, ordered_first, ordered_if, said_found, said_refused_lem}
@@ -15,7 +15,7 @@ use Rattle.words.proofs.Order.{word_ordered}
 use Rattle.gauge.specs.Widths.{any_bad}
 use Rattle.gauge.specs.Fit.{given, fit_values, fit_grounds, fit_said, fit_answer, judge_fit}
 use Rattle.gauge.specs.declared.Gauge.{Gauge}
-use Rattle.gauge.specs.declared.Fitting.TheVariants.{Refused}
+use Rattle.gauge.specs.declared.Fitting.{Fitting}
 
 pub fit_ordered : (g : Gauge) (widths : List Float) (word : List ℕ) (size : ℕ) → Ordered (judge_fit g widths word size) (fit_grounds g widths word size)
 unfolding judge_fit fit_grounds
@@ -27,10 +27,10 @@ module _ (g : Gauge) (widths : List Float) (word room : List ℕ) {judged : Chec
   judged_as : {c : Check} → judged ≡ c → Ordered c (fit_grounds g widths word (length room))
   judged_as e = record { same = ap says (sym e) ∙ p }
 
-  pub answer_refused : {x : Ground} → judged ≡ checks.Refused x → fit_said (Err x) ≡ fit_answer g widths word room
+  pub answer_refused : {x : Ground} → judged ≡ Err x → {r : Result Fitting Ground} → r ≡ Err x → fit_said r ≡ fit_answer g widths word room
   unfolding fit_said fit_answer
-  answer_refused e = sym (said_refused_lem (judged_as e) (fit_values g widths word room))
+  answer_refused e f = ap fit_said f ∙ sym (said_refused_lem (judged_as e) (fit_values g widths word room))
 
-  pub answer_found : judged ≡ checks.Fine → {said : Said} → said ≡ Finds (fit_values g widths word room) → said ≡ fit_answer g widths word room
+  pub answer_found : judged ≡ Ok tt → {said : Said} → said ≡ Finds (fit_values g widths word room) → said ≡ fit_answer g widths word room
   unfolding fit_answer
   answer_found e f = f ∙ sym (said_found (judged_as e) (fit_values g widths word room))

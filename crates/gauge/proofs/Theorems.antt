@@ -14,7 +14,7 @@ use lib.Ieee.{Float, nan, inf, fin, binary64, add, of_int, lt, is_nan}
 use lib.Ieee.Scale.{finite}
 use Rattle.base.specs.Limits.{room_size, word_limit, width_count}
 use Rattle.base.specs.Grounds.{plain, Finds, Refuses, Row, says, on, first_of, any_holds, one_of, Check}
-use Rattle.std.specs.Prelude.{Ok, Err}
+use Rattle.std.specs.Prelude.{Ok, Err, Result}
 use Rattle.base.proofs.Grounds.{Ordered, judged_by, said_found, said_refused_lem}
 use Rattle.base.proofs.Lists.{never, both, untrue}
 use Rattle.base.proofs.Order.{finds_exactly, last_exactly, none_found_lem}
@@ -26,6 +26,7 @@ use Rattle.gauge.specs.Widths.{zero_width, width_limit, bad_width, any_bad, lett
 use Rattle.gauge.specs.Fit.{is_marked, whole_fits, hyphen_fits, break_fits, last_of, whole_found, break_found, none_found, break_or_none, fit_values, given, fit_grounds, fit_said, fit_answer, judge_fit}
 use Rattle.gauge.specs.Strip.{IsBreak, LastFitting, NoneFitting, FirstMisfit, Outside, SomeOutside}
 use Rattle.gauge.specs.declared.Gauge.{Gauge}
+use Rattle.base.specs.declared.Ground.{Ground}
 use Rattle.gauge.specs.declared.Fitting.{Fitting}
 use Rattle.gauge.proofs.Order.{fit_ordered}
 use Rattle.gauge.proofs.Laws.{fit_judged}
@@ -226,7 +227,7 @@ module _ (g : Gauge) (widths : List Float) (word room : List ℕ) where
       back : NoneFitting g widths word room → last_of (break_fits g widths word room) (length word - 1) ≡ 0
       back n = last_once (break_fits g widths word room) (length word - 1) _ 0 (last_is (break_fits g widths word room) (length word - 1)) (λ j a b. fails j a (omega arith) (n j))
 
-  module _ (r : Fitting) (p : fit_said r ≡ fit_answer g widths word room) where
+  module _ (r : Result Fitting Ground) (p : fit_said r ≡ fit_answer g widths word room) where
     found : (l : List ℕ) → (fit_said r ≡ Finds l) ↔ (NoGround × (fit_values g widths word room ≡ l))
     unfolding fit_answer
     found l =

@@ -1,15 +1,16 @@
 -- Which break fits the strip: what the call finds, its grounds in order, and its promise.
-use Rattle.std.specs.Prelude.{ℕ, zero, suc, ◌-◌, Bool, cond, not, ◌&&◌, List, [], ◌∷◌, ◌++◌, eqb, ltb, length, get_or, Float}
+use Rattle.std.specs.Prelude.{ℕ, zero, suc, ◌-◌, Bool, cond, not, ◌&&◌, List, [], ◌∷◌, ◌++◌, eqb, ltb, length, get_or, Float, Result, Ok, Err}
 use Rattle.std.specs.Float.{binary64}
 use Rattle.std.specs.Float.Ieee.{add}
 use Rattle.base.specs.Limits.{room_size, word_limit}
 use Rattle.base.specs.Grounds.{told, Said, Finds, Refuses, Row, on, first_of, first, refuse_if, Check}
+use Rattle.base.specs.declared.Ground.{Ground}
 use Rattle.base.specs.declared.Ground.TheVariants.{RoomShort, BadWidth}
 use Rattle.words.specs.Words.{word_grounds, judge_word}
 use Rattle.gauge.specs.Widths.{any_bad, width_to, fits_in}
 use Rattle.gauge.specs.declared.Gauge.{Gauge}
 use Rattle.gauge.specs.declared.Fitting.{Fitting}
-use Rattle.gauge.specs.declared.Fitting.TheVariants.{Whole, Break, Nowhere, Refused}
+use Rattle.gauge.specs.declared.Fitting.TheVariants.{Whole, Break, Nowhere}
 
 -- "a gauge of hyphen width and line width"
 abbrev pub gauge_of : Float → Float → Gauge
@@ -72,10 +73,10 @@ unfoldable pub fit_grounds : Gauge → List Float → List ℕ → ℕ → List 
 fit_grounds g widths word size = on 5 (ltb size room_size) ∷ word_grounds word_limit word ++ (on 13 (any_bad (given g widths)) ∷ [])
 
 -- What each case of the answer says: its number and values.
-unfoldable pub fit_said : Fitting → Said
-fit_said Whole = Finds whole_found
-fit_said (Break gap) = Finds (break_found gap)
-fit_said Nowhere = Finds none_found
+unfoldable pub fit_said : Result Fitting Ground → Said
+fit_said (Ok Whole) = Finds whole_found
+fit_said (Ok (Break gap)) = Finds (break_found gap)
+fit_said (Ok Nowhere) = Finds none_found
 fit_said (Err g) = Refuses (told g)
 
 -- The promise is that what the answer says is this.

@@ -17,14 +17,12 @@ pub struct Gauge {
     pub line: f64,
 }
 
-// What the call answers: the whole word fits, the last break that fits with its hyphen, told by the letters before it, none fits; or why
-// it refuses.
+// What the call finds: the whole word fits, the last break that fits with its hyphen, told by the letters before it, or none fits.
 #[derive(Clone, Copy)]
 pub enum Fitting {
     Whole,
     Break(usize),
     Nowhere,
-    Refused(Ground),
 }
 
 // What came out, by its number (specs/Fit.antt).
@@ -124,9 +122,9 @@ fn last_break(mark: u8, fits: bool, i: usize, before: usize) -> usize
 }
 
 // What is found of a judged word in a judged room.
-fn find_fit(gauge: Gauge, widths: &[f64], word: &[u8], room: &[u8]) -> Result<Fitting, Ground>
+fn find_fit(gauge: Gauge, widths: &[f64], word: &[u8], room: &[u8]) -> Fitting
     requires { (length widths.now ≡ width_count) × (judge_word word_limit word.now ≡ Ok tt) × (room_size ≤ length room.now) }
-    ensures { fit_said result ≡ Finds (fit_values gauge widths.now word.now room.now) }
+    ensures { fit_said (Ok result) ≡ Finds (fit_values gauge widths.now word.now room.now) }
 {
     let hyphen = gauge.hyphen;
     let line = gauge.line;
@@ -159,5 +157,5 @@ pub fn fit_word(
     ensures { fit_said result ≡ fit_answer gauge widths.now word.now room.now }
 {
     judge_fit(gauge, widths, word, room.len())?;
-    find_fit(gauge, &widths[..], word, room)
+    Ok(find_fit(gauge, &widths[..], word, room))
 }

@@ -8,7 +8,7 @@ use borrow.Author.Tests.{leb-true, eqb-true, eq-eqb}
 use lib.Dec.{leb, ltb, eqb}
 use Rattle.base.specs.Limits.{level_limit}
 use Rattle.table.specs.declared.Entry.{Entry}
-use Rattle.table.specs.Table.{entry_at, has}
+use Rattle.table.specs.Table.{entry_at}
 use Rattle.std.specs.Prelude.{Some, None, Option}
 use Rattle.walk.specs.Chain.{Setting, setting, chain_step, chain_from, chain}
 use Rattle.walk.specs.Raise.{highest_set}

@@ -8,7 +8,7 @@ use native.Mathlib.Decide.{dec_lt}
 use native.Mathlib.Omega.{arith}
 use lib.ListN.{length}
 use Rattle.base.specs.Limits.{pattern_limit}
-use Rattle.table.specs.Table.{look, Look, hit}
+use Rattle.table.specs.Table.{look, Look}
 use Rattle.std.specs.Prelude.{Some, None}
 use Rattle.liang.specs.Patterns.{Pattern}
 use Rattle.walk.specs.Walk.{look_step, looks_from, matches_from}

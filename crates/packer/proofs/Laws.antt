@@ -27,9 +27,7 @@ use Rattle.fit.specs.Cells.{Full, Fits, is_free, cell_of, place_list, layout_of,
 use Rattle.fit.specs.Entries.{Entries, TooMany, Made, Outputs, Over, Out, enter_levels, enter_pattern, put_output, output_of, outputs_of, empty_entries}
 use Rattle.fit.specs.Table.{Fit, NoRoom, Packed, put_kinds, bytes_of, finish, fit_layout, first_fit}
 use Rattle.placing.specs.Post.{Sized}
-use Rattle.packer.specs.declared.Packing.TheVariants as packings
-use Rattle.packer.specs.declared.Packing.{Packing}
-use Rattle.packer.specs.Pack.{judge_pack, packed_after, Lays, Answered}
+use Rattle.packer.specs.Pack.{Packing, judge_pack, packed_after, Lays, Answered}
 use Rattle.table.specs.Records.{two_bytes, head_bytes}
 use Rattle.packer.specs.Post.{table_of}
 
@@ -243,17 +241,17 @@ module _ (room cells : List ℕ) (p : pack_room ≤ length room) (q : length cel
   filled_cells c h = ap (take (cell_size * c)) (drop_at (take head_size room) (cells ++ drop cell_room (drop head_size room)) head_size head_length) ∙ take-append-le (cell_size * c) cells (drop cell_room (drop head_size room)) (omega (arith, cells_length))
 
   module _ (text : List ℕ) where
-    pub lays_nothing : {after : List ℕ} → first_fit (patterns_of text) ≡ NoRoom → after ≡ filled pack_room (take 0 filled_room) filled_room → Lays text room (packings.Refused NoFit) after
+    pub lays_nothing : {after : List ℕ} → first_fit (patterns_of text) ≡ NoRoom → after ≡ filled pack_room (take 0 filled_room) filled_room → Lays text room (Err NoFit) after
     unfolding filled
     lays_nothing f e = record { answered = rw f refl; memory = rw f (e ∙ ap (λ (l : List ℕ). replicate pack_room 0 ++ l) filled_behind) }
 
     pub lays_table : (c e : ℕ) (made : List ℕ) → c ≤ cell_limit → {size : ℕ} {after : List ℕ} → first_fit (patterns_of text) ≡ Packed (table_of c e cells made)
-        → size ≡ length (table_of c e (drop head_size filled_room) made) → after ≡ filled pack_room (table_of c e (drop head_size filled_room) made) filled_room → Lays text room (packings.Done size) after
+        → size ≡ length (table_of c e (drop head_size filled_room) made) → after ≡ filled pack_room (table_of c e (drop head_size filled_room) made) filled_room → Lays text room (Ok size) after
     unfolding filled
     lays_table c e made h f s a =
         let same : table_of c e (drop head_size filled_room) made ≡ table_of c e cells made = ap (λ (l : List ℕ). head_bytes c e ++ (l ++ take (entry_size * e) made)) (filled_cells c h) in
         record {
-          answered = rw f (ap packings.Done (s ∙ ap length same));
+          answered = rw f (ap Ok (s ∙ ap length same));
           memory = rw f (a ∙ ap (λ (t : List ℕ). filled pack_room t filled_room) same ∙ ap (λ (l : List ℕ). table_of c e cells made ++ (replicate (pack_room - length (table_of c e cells made)) 0 ++ l)) filled_behind);
         }
 
@@ -271,12 +269,12 @@ module _ (text room : List ℕ) where
   unfolding judge_pack
   judged_next h = rw (le-ltb (length room) pack_room h)
 
-  pub pack_short : length room < pack_room → Answered text room (packings.Refused PackRoomShort) room
+  pub pack_short : length room < pack_room → Answered text room (Err PackRoomShort) room
   pack_short h = record { answered = rw (judged_short h) refl; memory = rw (judged_short h) refl }
 
   module _ (h : pack_room ≤ length room) where
-    pub pack_refused : {g : Ground} → judge_patterns text ≡ Err g → Answered text room (packings.Refused g) room
-    pack_refused e = record { answered = rw (judged_next h, e) refl; memory = rw (judged_next h, e) refl }
+    pub pack_refused : {g : Ground} → judge_patterns text ≡ Err g → {r : Packing} → r ≡ Err g → Answered text room r room
+    pack_refused e f = record { answered = rw (f, judged_next h, e) refl; memory = rw (judged_next h, e) refl }
 
     module _ {cleared : List ℕ} (k : cleared ≡ filled pack_room (take 0 room) room) where
       pub cleared_start : take pack_room cleared ≡ replicate pack_room 0

@@ -20,9 +20,7 @@ use Rattle.lists.specs.Lists.{pattern_grounds}
 use Rattle.lists.proofs.Order.{patterns_ordered}
 use Rattle.liang.specs.Patterns.{patterns_of}
 use Rattle.fit.specs.Table.{Fit, NoRoom, Packed, first_fit}
-use Rattle.packer.specs.Pack.{has_no_room, pack_grounds, fit_bytes, packing_said, pack_said, pack_left, Packs, judge_pack, packing, packed_after, pack_answer, pack_leaves, Answered}
-use Rattle.packer.specs.declared.Packing.{Packing}
-use Rattle.packer.specs.declared.Packing.TheVariants as packings
+use Rattle.packer.specs.Pack.{has_no_room, pack_grounds, fit_bytes, packing_said, pack_said, pack_left, Packs, judge_pack, packing, packed_after, pack_answer, pack_leaves, Answered, Packing}
 
 -- ground 11 behind the others
 judge_fit : List ℕ → ℕ → Check
@@ -55,10 +53,10 @@ early_number text size g e =
 -- no two packings say the same
 packing_once : (r s : Packing) → packing_said r ≡ packing_said s → r ≡ s
 unfolding packing_said
-packing_once (packings.Done n) (packings.Done m) e = let a : n ≡ m = cc in rw a
-packing_once (packings.Done n) (packings.Refused h) e = no_refusal e
-packing_once (packings.Refused g) (packings.Done m) e = no_refusal (sym e)
-packing_once (packings.Refused g) (packings.Refused h) e = ap packings.Refused (told_once g h (refuses_once e))
+packing_once (Ok n) (Ok m) e = let a : n ≡ m = cc in rw a
+packing_once (Ok n) (Err h) e = no_refusal e
+packing_once (Err g) (Ok m) e = no_refusal (sym e)
+packing_once (Err g) (Err h) e = ap Err (told_once g h (refuses_once e))
 
 -- what a judgement and a layout come to is what the grounds say
 module _ {rows : List Row} (room : List ℕ) where

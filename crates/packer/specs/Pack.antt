@@ -1,14 +1,13 @@
 -- The packer: its grounds in order, its answer, and what it leaves in the room.
-use Rattle.std.specs.Prelude.{ℕ, Bool, true, false, cond, List, [], ◌∷◌, ◌++◌, ◌≡◌, eqb, length, Ok, Err}
+use Rattle.std.specs.Prelude.{ℕ, Bool, true, false, cond, List, [], ◌∷◌, ◌++◌, ◌≡◌, eqb, length, Ok, Err, Result}
 use Rattle.base.specs.Limits.{pack_room}
 use Rattle.base.specs.Grounds.{told, Said, Finds, Refuses, Row, on, first_of, first, refuse_if, Check}
+use Rattle.base.specs.declared.Ground.{Ground}
 use Rattle.base.specs.declared.Ground.TheVariants.{PackRoomShort, NoFit}
 use Rattle.rooms.specs.Rooms.{is_short, filled}
 use Rattle.lists.specs.Lists.{pattern_grounds, judge_patterns}
 use Rattle.liang.specs.Patterns.{patterns_of}
 use Rattle.fit.specs.Table.{Fit, NoRoom, Packed, first_fit}
-use Rattle.packer.specs.declared.Packing.{Packing}
-use Rattle.packer.specs.declared.Packing.TheVariants as packings
 
 -- Ground 11: "first fit needs C over 8,192 or E over 2,048".
 abbrev pub has_no_room : Fit → Bool
@@ -24,10 +23,14 @@ abbrev pub fit_bytes : Fit → List ℕ
 fit_bytes NoRoom = []
 fit_bytes (Packed table) = table
 
+-- What the packer answers: the table's length, or why it refuses.
+abbrev pub Packing : Type 0
+Packing = Result ℕ Ground
+
 -- What a packing says: "A packing tells its length".
 unfoldable pub packing_said : Packing → Said
-packing_said (packings.Done size) = Finds (size ∷ [])
-packing_said (packings.Refused g) = Refuses (told g)
+packing_said (Ok size) = Finds (size ∷ [])
+packing_said (Err g) = Refuses (told g)
 
 -- What the packer says by the order of its grounds, for a room of this size.
 unfoldable pub pack_said : List ℕ → ℕ → Said
@@ -49,9 +52,9 @@ unfoldable pub judge_pack : List ℕ → ℕ → Check
 judge_pack text size = first (refuse_if (is_short pack_room size) PackRoomShort) (judge_patterns text)
 
 abbrev pub packing : Check → Fit → Packing
-packing (Err g) fit = packings.Refused g
-packing (Ok _) NoRoom = packings.Refused NoFit
-packing (Ok _) (Packed table) = packings.Done (length table)
+packing (Err g) fit = Err g
+packing (Ok _) NoRoom = Err NoFit
+packing (Ok _) (Packed table) = Ok (length table)
 
 abbrev pub packed_after : Check → Fit → List ℕ → List ℕ
 packed_after (Err g) fit room = room

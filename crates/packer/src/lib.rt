@@ -16,27 +16,12 @@ ghost use Rattle.packer.specs.Pack.{Lays, Packs};
 ghost use Rattle.packer.specs.Post.{as_outputs, entries_in, table_of, as_fit, Bounded};
 
 use base::Ground;
-use entering::Entered;
 
-// What the packer answers: the table's length, or why it refuses.
+// How many cells and entries a layout has.
 #[derive(Clone, Copy)]
-pub enum Packing {
-    Done(usize),
-    Refused(Ground),
-}
-
-// How the outputs came out: how many entries there are, or that there are too many.
-#[derive(Clone, Copy)]
-pub enum Outcome {
-    Out(u16),
-    Over,
-}
-
-// How a layout came out: how many cells and entries it has, or that it has too many.
-#[derive(Clone, Copy)]
-pub enum Filled {
-    Laid { cells: u16, entries: u16 },
-    Full,
+pub struct Laid {
+    pub cells: u16,
+    pub entries: u16,
 }
 
 // The highest used cell + 1, or 1 if none is.
@@ -79,8 +64,8 @@ fn put_output(cells: &mut [u8], root: u16, line: &[u8], m: u8, output: u16)
 }
 
 // The outputs of every pattern of a good text, walked from the root's base, and the entries behind them. The count says how many
-// entries are there before.
-fn put_outputs(cells: &mut [u8], made: &mut [u8], count: u16, root: u16, text: &[u8]) -> Outcome
+// entries are there before; nothing where there are too many.
+fn put_outputs(cells: &mut [u8], made: &mut [u8], count: u16, root: u16, text: &[u8]) -> Option<u16>
     requires { (length made.old ≡ entry_room) × (count ≤ entry_limit) × (judge_patterns text.now ≡ Ok tt) }
     ensures count_value { outputs_of root (patterns_of text.now) (fit.Out cells.old made.old count) ≡ as_outputs cells.new made.new result }
     ensures result_bound { entries_in result ≤ entry_limit }
@@ -90,41 +75,31 @@ fn put_outputs(cells: &mut [u8], made: &mut [u8], count: u16, root: u16, text: &
     while at < text.len() {
         let end = lines::line_end(text, at);
         let m = patterns::symbol_count(&text[at..end]) as u8;
-        let step = entering::enter_levels(made, entries, &text[at..end], m);
-        let Entered::Made {
-            count: more,
-            last: output,
-        } = step
-        else {
-            return Outcome::Over;
-        };
-        put_output(cells, root, &text[at..end], m, output);
-        entries = more;
+        let step = entering::enter_levels(made, entries, &text[at..end], m)?;
+        put_output(cells, root, &text[at..end], m, step.last);
+        entries = step.count;
         at = end;
     }
-    Outcome::Out(entries)
+    Some(entries)
 }
 
-// The layout of a good text, in cells and entries that are zero before.
-fn fill(cells: &mut [u8], made: &mut [u8], text: &[u8]) -> Filled
+// The layout of a good text, in cells and entries that are zero before; nothing where it has too many of either.
+fn fill(cells: &mut [u8], made: &mut [u8], text: &[u8]) -> Option<Laid>
     requires { (cells.old ≡ replicate cell_room 0) × (made.old ≡ empty_entries) × (judge_patterns text.now ≡ Ok tt) }
     ensures text_value { first_fit (patterns_of text.now) ≡ as_fit cells.new made.new result }
     ensures bounded { Bounded result }
 {
     let mut taken = [0u8; base::CELL_LIMIT];
     if !placing::place_all(cells, &mut taken, table::ROOT_BASE, text) {
-        return Filled::Full;
+        return None;
     }
     let count = used_cells(cells);
-    let outcome = put_outputs(cells, made, 0, table::ROOT_BASE, text);
-    let Outcome::Out(entries) = outcome else {
-        return Filled::Full;
-    };
+    let entries = put_outputs(cells, made, 0, table::ROOT_BASE, text)?;
     put_kinds(cells, count);
-    Filled::Laid {
+    Some(Laid {
         cells: count as u16,
-        entries: entries,
-    }
+        entries,
+    })
 }
 
 // The entries behind the cells, zeros behind the entries, and the head: the table's length.
@@ -152,7 +127,7 @@ fn lay(room: &mut [u8], text: &[u8]) -> Result<usize, Ground>
         &mut made,
         text,
     );
-    let Filled::Laid { cells, entries } = filled else {
+    let Some(Laid { cells, entries }) = filled else {
         rooms::clear_from(room, 0, base::PACK_ROOM);
         return Err(Ground::NoFit);
     };

@@ -2,14 +2,14 @@
 -- exactly where `Right` does. Only strings of the list are followed, so its work is bounded by the list: the patterns stand in
 -- order, and so each path's continuations are met in order too. At each step the table must go on with the pattern's own symbol
 -- and with none of those that the list passes over. `Node` and `Beside`, which the checker keeps on its way, are src/lib.rt's.
-use Rattle.std.specs.Prelude.{ℕ, zero, suc, ◌+◌, ◌-◌, Bool, true, false, cond, not, ◌&&◌, ◌||◌, List, [], ◌∷◌, ◌++◌, leb, ltb, eqb, get_or, Some, None}
+use Rattle.std.specs.Prelude.{ℕ, zero, suc, ◌+◌, ◌-◌, Bool, true, false, cond, not, ◌&&◌, ◌||◌, List, [], ◌∷◌, ◌++◌, leb, ltb, eqb, get_or, Some, None, is_some}
 use Rattle.base.specs.Limits.{symbol_limit, pattern_limit}
 use Rattle.base.specs.Tests.{all_from}
 use Rattle.base.specs.Grounds.{Row, on, first, refuse_if, Check}
 use Rattle.base.specs.declared.Ground.TheVariants.{NotRight}
 use Rattle.lists.specs.Lists.{pattern_grounds, judge_patterns}
 use Rattle.liang.specs.Patterns.{Pattern, patterns_of}
-use Rattle.table.specs.Table.{root_base, cell_kind, entry_kind, cell_size, entry_size, cell_count, entry_count, table_grounds, judge_table, cells_of, entries_of, look, Look, hit}
+use Rattle.table.specs.Table.{root_base, cell_kind, entry_kind, cell_size, entry_size, cell_count, entry_count, table_grounds, judge_table, cells_of, entries_of, look, Look}
 use Rattle.walk.specs.Chain.{chain}
 use Rattle.walk.specs.Raise.{highest_set}
 use Rattle.trie.specs.Sound.{sound}
@@ -44,8 +44,7 @@ unfoldable pub child_at : List ℕ → Node → ℕ → Look
 child_at cells node s = cond node.leaf None (look cells (node.base + s) s)
 
 abbrev pub is_hit : Look → Bool
-is_hit None = false
-is_hit (Some found) = true
+is_hit found = is_some found
 
 -- From a node the table goes on with no symbol between two others.
 unfoldable pub none_between : List ℕ → Node → ℕ → ℕ → Bool

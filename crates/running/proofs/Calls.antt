@@ -17,10 +17,8 @@ use Rattle.runs.specs.Reached.{can_be_held}
 use Rattle.states.specs.State.{state_of, new_text, held_in, Left, read_state, Reads}
 use Rattle.states.specs.declared.TextState.{TextState}
 use Rattle.flowing.specs.Output.{piece_text, piece_looks, end_text, end_looks}
-use Rattle.running.specs.Calls.{passes_end, short_for, judge_setting, judge_piece, judge_end, total_now, Given, PiecesDone, EndsDone}
+use Rattle.running.specs.Calls.{passes_end, short_for, judge_setting, judge_piece, judge_end, total_now, Given, PiecesDone, EndsDone, TextAnswer}
 use Rattle.running.specs.declared.Taken.{Taken}
-use Rattle.running.specs.declared.TextAnswer.{TextAnswer}
-use Rattle.running.specs.declared.TextAnswer.TheVariants as answers
 use Rattle.running.proofs.Laws.{past_bound, size_within, ends_can, end_text_is, end_looks_is}
 
 -- a room that isn't short
@@ -30,7 +28,7 @@ room_fits bytes size e = ltb-false size (room_per_byte * bytes) e
 
 -- a refusal leaves state and room alone, whatever the call
 pub refused : (text : List ℕ) (looks : ℕ) (state then : TextState) (room : List ℕ) {judged judgement : Check} {g : Ground} → judged ≡ judgement → judged ≡ Err g
-    → Given judgement text looks state then room (record { state = state; answer = answers.Refused g }) room
+    → Given judgement text looks state then room (record { state = state; answer = Err g }) room
 refused text looks state then room p q = record { answered = rw (← p, q); state = rw (← p, q); memory = rw (← p, q) }
 
 module _ (state s : TextState) (e : Reads state s) (left right : ℕ) (customer house table : List ℕ) where

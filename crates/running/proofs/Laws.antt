@@ -29,8 +29,7 @@ use Rattle.flowing.specs.Post.{flow_held, Shows, Shaped, Ready, Flows}
 use Rattle.flowing.specs.declared.Flow.{Flow}
 use Rattle.flowing.specs.declared.Shown.{Shown}
 use Rattle.flowing.proofs.Steps.{bytes_are, held_can}
-use Rattle.running.specs.Calls.{passes_end, short_for, judge_setting, judge_piece, judge_end, PiecesDone, EndsDone}
-use Rattle.running.specs.declared.TextAnswer.TheVariants as answers
+use Rattle.running.specs.Calls.{passes_end, short_for, judge_setting, judge_piece, judge_end, PiecesDone, EndsDone, written}
 
 -- ground 21
 pub past_total : (total n : ℕ) → running_text < total → true ≡ passes_end total n
@@ -201,7 +200,7 @@ pub piece_done : (s : TextState) (left right : ℕ) (customer house table piece 
     → Flows left right customer house table piece (record { size = s.size; run = s.run; at = 0; looks = 0 }) s.held room f held_then after
     → cleaned ≡ filled held_limit (take f.size held_then) held_then
     → PiecesDone s left right customer house table piece room
-    (record { state = record { held = cleaned; size = f.size; run = f.run; total = s.total + length piece }; answer = answers.Written f.at f.looks }) after
+    (record { state = record { held = cleaned; size = f.size; run = f.run; total = s.total + length piece }; answer = written f.at f.looks }) after
 piece_done s left right customer house table piece room {f = f} {held_then = held_then} w c =
     let p = front (piece_text left right customer house table (held_in s) piece) room 0 f.at refl w.put in
     let k : f.looks ≡ piece_looks customer house table (held_in s) piece = w.looked ∙ zero-add (piece_looks customer house table (held_in s) piece) in
@@ -213,7 +212,7 @@ piece_done s left right customer house table piece room {f = f} {held_then = hel
 
 pub end_done : (held : List ℕ) (size left right : ℕ) (customer house table room : List ℕ) {shown : Shown} {after : List ℕ}
     → Shows (finished_text left right customer house table (take (size - 0) held)) (finished_looks customer house table (take (size - 0) held)) 0 room shown after
-    → EndsDone (take size held) left right customer house table room (answers.Written shown.end shown.looks) after
+    → EndsDone (take size held) left right customer house table room (written shown.end shown.looks) after
 end_done held size left right customer house table room {shown = shown} s =
     let e : take (size - 0) held ≡ take size held = ap (λ (k : ℕ). take k held) (sub-zero size) in
     let p = front (finished_text left right customer house table (take (size - 0) held)) room 0 shown.end refl s.put in

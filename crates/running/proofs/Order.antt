@@ -12,10 +12,8 @@ use Rattle.lists.proofs.Order.{lists_ordered}
 use Rattle.table.proofs.Order.{table_ordered}
 use Rattle.hyphenation.proofs.Order.{margins_ordered}
 use Rattle.states.specs.declared.TextState.{TextState}
-use Rattle.running.specs.Calls.{setting_grounds, passes_end, short_for, piece_grounds, end_grounds, text_said, written_or, text_left, state_left, Gives, judge_setting, judge_piece, judge_end, text_answer, text_after, state_after, Given}
+use Rattle.running.specs.Calls.{setting_grounds, passes_end, short_for, piece_grounds, end_grounds, text_said, written_or, text_left, state_left, Gives, judge_setting, judge_piece, judge_end, text_answer, text_after, state_after, Given, TextAnswer}
 use Rattle.running.specs.declared.Taken.{Taken}
-use Rattle.running.specs.declared.TextAnswer.{TextAnswer}
-use Rattle.running.specs.declared.TextAnswer.TheVariants as answers
 
 pub setting_ordered : (left right : ℕ) (customer house table : List ℕ) → Ordered (judge_setting left right customer house table) (setting_grounds left right customer house table)
 unfolding judge_setting setting_grounds
@@ -37,10 +35,10 @@ end_ordered left right customer house table held size =
 -- no two answers say the same
 answer_once : (r s : TextAnswer) → text_said r ≡ text_said s → r ≡ s
 unfolding text_said
-answer_once (answers.Written m l) (answers.Written n k) e = let a : m ≡ n = cc in let b : l ≡ k = cc in rw (a, b)
-answer_once (answers.Written m l) (answers.Refused h) e = no_refusal e
-answer_once (answers.Refused g) (answers.Written n k) e = no_refusal (sym e)
-answer_once (answers.Refused g) (answers.Refused h) e = ap answers.Refused (told_once g h (refuses_once e))
+answer_once (Ok w) (Ok w') e = let a : w.length ≡ w'.length = cc in let b : w.looks ≡ w'.looks = cc in rw (a, b)
+answer_once (Ok w) (Err h) e = no_refusal e
+answer_once (Err g) (Ok w) e = no_refusal (sym e)
+answer_once (Err g) (Err h) e = ap Err (told_once g h (refuses_once e))
 
 -- what is answered and left by a judgement is what its grounds say
 module _ (text : List ℕ) (looks : ℕ) {rows : List Row} where

@@ -1,8 +1,9 @@
 -- CR 6: the two calls of a running text: their grounds in order, their answers, the state that they give back, and what they leave in the
 -- room.
-use Rattle.std.specs.Prelude.{ℕ, ◌+◌, ◌*◌, Bool, List, [], ◌∷◌, ◌++◌, ◌≡◌, ltb, length, drop, Ok, Err}
+use Rattle.std.specs.Prelude.{ℕ, ◌+◌, ◌*◌, Bool, List, [], ◌∷◌, ◌++◌, ◌≡◌, ltb, length, drop, Ok, Err, Result}
 use Rattle.base.specs.Limits.{running_text, room_per_byte}
 use Rattle.base.specs.Grounds.{told, Said, Finds, Refuses, Row, on, first_of, first, refuse_if, Check}
+use Rattle.base.specs.declared.Ground.{Ground}
 use Rattle.base.specs.declared.Ground.TheVariants.{TextRoomShort, RunningLong}
 use Rattle.rooms.specs.Rooms.{is_short}
 use Rattle.lists.specs.Lists.{list_grounds, judge_lists}
@@ -14,8 +15,7 @@ use Rattle.states.specs.State.{state_of, new_text, held_in, read_state}
 use Rattle.states.specs.declared.TextState.{TextState}
 use Rattle.flowing.specs.Output.{finished_text, finished_looks, piece_text, piece_looks, end_text, end_looks}
 use Rattle.running.specs.declared.Taken.{Taken}
-use Rattle.running.specs.declared.TextAnswer.{TextAnswer}
-use Rattle.running.specs.declared.TextAnswer.TheVariants as answers
+use Rattle.running.specs.declared.Written.{Written}
 
 -- "Exceptions, margins and table come with each call and are judged first (1, 8, 6, 9)."
 unfoldable pub setting_grounds : ℕ → ℕ → List ℕ → List ℕ → List ℕ → List Row
@@ -37,10 +37,17 @@ piece_grounds left right customer house table total held n size =
 unfoldable pub end_grounds : ℕ → ℕ → List ℕ → List ℕ → List ℕ → ℕ → ℕ → List Row
 end_grounds left right customer house table held size = setting_grounds left right customer house table ++ (on 14 (short_for held size) ∷ [])
 
+-- What a call of a running text answers: what it wrote, or why it refuses.
+abbrev pub TextAnswer : Type 0
+TextAnswer = Result Written Ground
+
+abbrev pub written : ℕ → ℕ → TextAnswer
+written length looks = Ok (record { length = length; looks = looks })
+
 -- What an answer says: "an answer tells the length of each text .. it wrote; here its count too".
 unfoldable pub text_said : TextAnswer → Said
-text_said (answers.Written length looks) = Finds (length ∷ looks ∷ [])
-text_said (answers.Refused g) = Refuses (told g)
+text_said (Ok w) = Finds (w.length ∷ w.looks ∷ [])
+text_said (Err g) = Refuses (told g)
 
 abbrev pub written_or : List Row → List ℕ → ℕ → Said
 written_or grounds text looks = first_of (Finds (length text ∷ looks ∷ [])) grounds
@@ -93,8 +100,8 @@ unfoldable pub judge_end : ℕ → ℕ → List ℕ → List ℕ → List ℕ �
 judge_end left right customer house table held size = first (judge_setting left right customer house table) (refuse_if (short_for held size) TextRoomShort)
 
 abbrev pub text_answer : Check → List ℕ → ℕ → TextAnswer
-text_answer (Ok _) text looks = answers.Written (length text) looks
-text_answer (Err g) text looks = answers.Refused g
+text_answer (Ok _) text looks = written (length text) looks
+text_answer (Err g) text looks = Err g
 
 abbrev pub text_after : Check → List ℕ → List ℕ → List ℕ
 text_after (Ok _) text room = text ++ drop (length text) room
@@ -147,5 +154,5 @@ PiecesDone s left right customer house table piece room =
     (state_of (held_after (held_in s) piece) (s.total + length piece)) room
 
 pub record EndsDone (kept : List ℕ) (left right : ℕ) (customer house table room : List ℕ) (r : TextAnswer) (after : List ℕ) : Type 0 where
-  pub answered : r ≡ answers.Written (length (finished_text left right customer house table kept)) (finished_looks customer house table kept)
+  pub answered : r ≡ written (length (finished_text left right customer house table kept)) (finished_looks customer house table kept)
   pub memory : after ≡ finished_text left right customer house table kept ++ drop (length (finished_text left right customer house table kept)) room

@@ -12,11 +12,11 @@ use base::Ground;
 use flowing::Flow;
 use states::TextState;
 
-// What a call answers: the length of the text that it wrote, with the count of the words that it finished, or why it refuses.
+// What a call wrote: the length of the text, and the count of the words that it finished.
 #[derive(Clone, Copy)]
-pub enum TextAnswer {
-    Written { length: usize, looks: usize },
-    Refused(Ground),
+pub struct Written {
+    pub length: usize,
+    pub looks: usize,
 }
 
 // An answer, and the state for the next call.
@@ -127,10 +127,10 @@ fn flow_piece<'a>(
     };
     Taken {
         state: state,
-        answer: TextAnswer::Written {
+        answer: Ok(Written {
             length: end.at,
             looks: end.looks,
-        },
+        }),
     }
 }
 
@@ -149,10 +149,10 @@ fn flow_end<'a>(
     ensures { EndsDone (take size held.now) left right customer.now house.now table.now room.old result room.new }
 {
     let shown = flowing::put_held(left, right, customer, house, table, &held[0..size], room, 0);
-    TextAnswer::Written {
+    Ok(Written {
         length: shown.end,
         looks: shown.looks,
-    }
+    })
 }
 
 // A piece of a running text. Margins, lists and table come with it, and are judged first.
@@ -169,7 +169,7 @@ pub fn take_piece<'a>(
     ensures { Pieces state left right customer.now house.now table.now piece.now room.old result room.new }
 {
     let s = states::read_state(state);
-    let judged = judge_piece(
+    if let Err(g) = judge_piece(
         left,
         right,
         customer,
@@ -179,8 +179,7 @@ pub fn take_piece<'a>(
         s.size,
         piece.len(),
         room.len(),
-    );
-    if let Err(g) = judged {
+    ) {
         return Taken {
             state: state, // as it was given
             answer: Err(g),
@@ -202,8 +201,7 @@ pub fn end_text<'a>(
     ensures { Ends state left right customer.now house.now table.now room.old result room.new }
 {
     let s = states::read_state(state);
-    let judged = judge_end(left, right, customer, house, table, s.size, room.len());
-    if let Err(g) = judged {
+    if let Err(g) = judge_end(left, right, customer, house, table, s.size, room.len()) {
         return Taken {
             state: state, // the text stays open
             answer: Err(g),

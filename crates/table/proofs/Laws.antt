@@ -2,16 +2,16 @@
 use Prim.Native.Nat.{ℕ, ◌+◌, ◌*◌, ◌-◌, ◌/◌, ◌%◌, ◌≤◌, ◌<◌}
 use mathlib.Core.Bool.{and-false}
 use mathlib.Core.List.{List, [], ◌∷◌, ◌++◌}
-use mathlib.Core.Path.{◌≡◌, sym, ◌∙◌}
+use mathlib.Core.Path.{◌≡◌, sym, ◌∙◌, ap}
 use native.Mathlib.Omega.{arith}
 use borrow.Author.Tests.{lt-leb, le-leb, eq-eqb, ne_eqb, lt-ltb, le-ltb}
 use lib.Dec.{eqb}
 use lib.ListN.{length, get_or, set, take, drop, length-drop, drop_of_length-le}
 use lib.Seq.{take_all, take-nil, set_out}
 use Rattle.base.specs.Limits.{cell_limit, entry_limit}
-use Rattle.std.specs.Prelude.{Ok, Err, None}
+use Rattle.std.specs.Prelude.{Ok, Err, None, Some}
 use Rattle.base.specs.declared.Ground.TheVariants.{TableForm}
-use Rattle.table.specs.Table.{head_kind, edition, head_size, cell_size, number_at, put_number, cell_count, entry_count, formed, judge_table, cells_from, entries_from, behind, cells_of, entries_of, cells_place, entries_place, look, entry_at, hit, has}
+use Rattle.table.specs.Table.{head_kind, edition, head_size, cell_size, number_at, put_number, cell_count, entry_count, formed, judge_table, cells_from, entries_from, behind, cells_of, entries_of, cells_place, entries_place, look, entry_at, hit, has, Look}
 use Rattle.table.specs.Records.{two_bytes, head_bytes}
 
 -- the two bytes of a number as the library writes them
@@ -178,6 +178,19 @@ pub head_put : (c e : ℕ) (room : List ℕ) {cells entries head : List ℕ} →
     → head ≡ head_kind ∷ edition ∷ get_or cells 0 0 ∷ get_or cells 1 0 ∷ get_or entries 0 0 ∷ get_or entries 1 0 ∷ [] → head ++ drop head_size room ≡ head_bytes c e ++ drop head_size room
 unfolding head_bytes two_bytes
 head_put c e room f g h = rw (h, f.high, f.low, g.high, g.low)
+
+-- equal cells have equal parts
+parts : Look → ℕ × ℕ
+parts None = (0, 0)
+parts (Some cell) = (cell.link, cell.output)
+
+pub links_once : {link output link' output' : ℕ} → hit link output ≡ hit link' output' → link ≡ link'
+unfolding parts
+links_once e = ap (λ (l : Look). (parts l).0) e
+
+pub outputs_once : {link output link' output' : ℕ} → hit link output ≡ hit link' output' → output ≡ output'
+unfolding parts
+outputs_once e = ap (λ (l : Look). (parts l).1) e
 
 -- one look
 module _ (t : List ℕ) (n s : ℕ) where

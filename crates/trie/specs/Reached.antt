@@ -1,6 +1,6 @@
 -- What a table's paths reach, and tables that agree on all of it: "Unreached cells and entries may hold anything in their bodies."
 use Rattle.std.specs.Prelude.{ℕ, ◌+◌, ◌*◌, ◌-◌, ◌<◌, List, [], ◌∷◌, ◌⊎◌, ◌≡◌, length, get_or, Some, None}
-use Rattle.table.specs.Table.{head_size, cell_size, entry_size, cells_of, entries_of, look, entry_at, Look, hit, has}
+use Rattle.table.specs.Table.{head_size, cell_size, entry_size, cells_of, entries_of, look, entry_at, Look, has}
 use Rattle.trie.specs.Paths.{Path}
 
 -- The link of a cell that matches.

@@ -2,7 +2,7 @@
 use Rattle.std.specs.Prelude.{ℕ, zero, suc, Bool, true, false, cond, ◌&&◌, List, leb, ltb, eqb, Some, None, Option}
 use Rattle.base.specs.Limits.{level_limit}
 use Rattle.table.specs.declared.Entry.{Entry}
-use Rattle.table.specs.Table.{entry_at, has}
+use Rattle.table.specs.Table.{entry_at}
 
 -- "no chain reached shows a fault just listed": a number over E or a kind other than 3, a level outside 1 to 9, a distance over
 -- the path's length m, a next not lower. `go` is the chain from a number on.

@@ -7,10 +7,9 @@ use Rattle.base.specs.declared.Ground.{Ground}
 use Rattle.states.specs.Bytes.{state_bytes, of_bytes}
 use Rattle.states.specs.State.{read_state}
 use Rattle.states.specs.declared.TextState.{TextState}
-use Rattle.running.specs.Calls.{total_now, Pieces, piece_answer, piece_next, piece_room, Ends, end_answer, end_next, end_room}
+use Rattle.running.specs.Calls.{total_now, Pieces, piece_answer, piece_next, piece_room, Ends, end_answer, end_next, end_room, TextAnswer, written}
 use Rattle.running.specs.declared.Taken.{Taken}
-use Rattle.running.specs.declared.TextAnswer.{TextAnswer}
-use Rattle.running.specs.declared.TextAnswer.TheVariants as texts
+use Rattle.std.specs.Prelude.{Ok, Err}
 use Rattle.running.proofs.Order.{piece_ordered, end_ordered, computed}
 use Rattle.tteolmigu.specs.Bits.{told_bits, text_bits, bytes_left}
 
@@ -18,10 +17,10 @@ pub told_fields : {number list place n l p : ℕ} → number ≡ n → list ≡ 
 told_fields en el ep = cc
 
 module _ (answer : TextAnswer) (bytes : List ℕ) (then : TextState) where
-  pub bytes_put : {length looks : ℕ} → answer ≡ texts.Written length looks → {after : List ℕ} → after ≡ state_bytes then → after ≡ bytes_left answer bytes then
+  pub bytes_put : {length looks : ℕ} → answer ≡ written length looks → {after : List ℕ} → after ≡ state_bytes then → after ≡ bytes_left answer bytes then
   bytes_put e p = rw e p
 
-  pub bytes_kept : {g : Ground} → answer ≡ texts.Refused g → bytes ≡ bytes_left answer bytes then
+  pub bytes_kept : {g : Ground} → answer ≡ Err g → bytes ≡ bytes_left answer bytes then
   bytes_kept e = rw e
 
 -- what the two calls leave, over the state that the bytes tell

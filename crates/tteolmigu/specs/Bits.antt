@@ -8,8 +8,7 @@ use Rattle.lookup.specs.declared.Located.TheVariants.{Customer, House, Nowhere}
 use Rattle.hyphenation.specs.Calls.{Answer, found}
 use Rattle.states.specs.Bytes.{state_bytes}
 use Rattle.states.specs.declared.TextState.{TextState}
-use Rattle.running.specs.declared.TextAnswer.{TextAnswer}
-use Rattle.running.specs.declared.TextAnswer.TheVariants as texts
+use Rattle.running.specs.Calls.{TextAnswer, written}
 use Rattle.packer.specs.declared.Packing.{Packing}
 use Rattle.packer.specs.declared.Packing.TheVariants as packings
 
@@ -73,13 +72,13 @@ abbrev pub written_bits : ℕ → ℕ → ℕ
 written_bits length looks = bits_at 32 24 length + bits_at 0 32 looks
 
 abbrev pub text_bits : TextAnswer → ℕ
-text_bits (texts.Written length looks) = written_bits length looks
-text_bits (texts.Refused g) = refusal_bits g
+text_bits (Ok w) = written_bits w.length w.looks
+text_bits (Err g) = refusal_bits g
 
 -- The state's bytes behind such a call: those of the state that it leaves; refused, "nothing is taken or written".
 abbrev pub bytes_left : TextAnswer → List ℕ → TextState → List ℕ
-bytes_left (texts.Written length looks) bytes then = state_bytes then
-bytes_left (texts.Refused g) bytes then = bytes
+bytes_left (Ok w) bytes then = state_bytes then
+bytes_left (Err g) bytes then = bytes
 
 -- What the header's accessors read of a returned number.
 abbrev pub read_bits : ℕ → ℕ → ℕ → ℕ

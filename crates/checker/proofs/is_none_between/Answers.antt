@@ -9,11 +9,11 @@ returns-then-node c = none_leaf _ _ _ _ c.if-node.true
 pub loop-symbol-init : goal.loop-symbol-init
 loop-symbol-init c = none_start _ _ _ _
 
-pub returns-in-Some : goal.returns-in-Some
-returns-in-Some c = sym (c.loop-symbol.invariant ∙ all_fail _ _ _ c.loop-symbol-test.true (free_hit _ _ c.if-node.false _ c.look_at.ensures c.in-Some.is))
+pub returns-then-is_some : goal.returns-then-is_some
+returns-then-is_some c = sym (c.loop-symbol.invariant ∙ all_fail _ _ _ c.loop-symbol-test.true (free_hit _ _ c.if-node.false _ c.look_at.ensures (sym c.is_some.ensures ∙ c.if-is_some.true)))
 
 pub loop-symbol-preserved : goal.loop-symbol-preserved
-loop-symbol-preserved c = c.loop-symbol.invariant ∙ all_pass _ _ _ c.loop-symbol-test.true (free_miss _ _ c.if-node.false _ c.look_at.ensures c.in_default.is)
+loop-symbol-preserved c = c.loop-symbol.invariant ∙ all_pass _ _ _ c.loop-symbol-test.true (free_miss _ _ c.if-node.false _ c.look_at.ensures (sym c.is_some.ensures ∙ c.if-is_some.false))
 
 pub returns : goal.returns
 returns c = sym (c.loop-symbol.invariant ∙ all_end _ _ _ c.loop-symbol-test.false)

@@ -9,14 +9,11 @@ use Rattle.entering.proofs.enter_levels.Goals as goal
 pub loop-d-init : goal.loop-d-init
 loop-d-init c = (search rules, search rules, search rules, search rules, search rules, levels_start _ _ _)
 
-pub shape_of-bytes-in_default : goal.shape_of-bytes-in_default
-shape_of-bytes-in_default c = c.enter-step.auto.bytes ∙ c.loop-d.invariant.3 ∙ sym c.loop-d.invariant.4
-
-pub returns-in_default : goal.returns-in_default
-returns-in_default c = record { count_value = c.loop-d.invariant.5 ∙ levels_enter _ _ _ _ c.loop-d-test.true c.level_at-level.ensures c.if-level-ne0.true (c.enter-step.ensures.next_value ∙ ap (as_entries _) c.in_default.is) ∙ levels_over _ _ _ _; result_bound = search rules; left = c.enter-step.auto.bytes ∙ c.loop-d.invariant.3 }
+pub returns-in_err-step-clause-count_value : goal.returns-in_err-step-clause-count_value
+returns-in_err-step-clause-count_value c = rw c.from_residual.ensures (c.loop-d.invariant.5 ∙ levels_enter _ _ _ _ c.loop-d-test.true c.level_at-level.ensures c.if-level-ne0.true (c.enter.ensures.next_value ∙ ap (as_entries _) c.in_err-step.was) ∙ levels_over _ _ _ _)
 
 pub loop-d-preserved-then-level-ne0 : goal.loop-d-preserved-then-level-ne0
-loop-d-preserved-then-level-ne0 c = (search rules, search rules, subst (λ e. count_of e ≤ entry_limit) c.in-Made.is c.enter-step.ensures.result_bound, c.enter-step.auto.bytes ∙ c.loop-d.invariant.3, search rules, c.loop-d.invariant.5 ∙ levels_enter _ _ _ _ c.loop-d-test.true c.level_at-level.ensures c.if-level-ne0.true (c.enter-step.ensures.next_value ∙ ap (as_entries _) c.in-Made.is))
+loop-d-preserved-then-level-ne0 c = (search rules, search rules, subst (λ e. count_of e ≤ entry_limit) c.in_ok-step.was c.enter.ensures.result_bound, c.enter.auto.bytes ∙ c.loop-d.invariant.3, search rules, c.loop-d.invariant.5 ∙ levels_enter _ _ _ _ c.loop-d-test.true c.level_at-level.ensures c.if-level-ne0.true (c.enter.ensures.next_value ∙ ap (as_entries _) c.in_ok-step.was))
 
 pub loop-d-preserved : goal.loop-d-preserved
 loop-d-preserved c = (search rules, search rules, search rules, search rules, search rules, c.loop-d.invariant.5 ∙ levels_skip _ _ _ _ c.loop-d-test.true c.level_at-level.ensures c.if-level-ne0.false)

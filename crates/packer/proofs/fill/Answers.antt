@@ -18,14 +18,14 @@ returns-then-not-place_all c = record { text_value = fit_full (patterns_of c.arg
 pub used_cells-count-requires : goal.used_cells-count-requires
 used_cells-count-requires c = size_kept cell_room c.requires.0 c.place_all.auto.cells
 
-pub put_outputs-outcome-requires : goal.put_outputs-outcome-requires
-put_outputs-outcome-requires c = (size_kept entry_room c.requires.1 refl, search rules, c.requires.2)
+pub put_outputs-requires : goal.put_outputs-requires
+put_outputs-requires c = (size_kept entry_room c.requires.1 refl, search rules, c.requires.2)
 
-pub returns-in_default : goal.returns-in_default
-returns-in_default c = record { text_value = fit_over (patterns_of c.args.text.now) c.requires.0 c.requires.1 refl (c.place_all.ensures.placed.fits c.if-not-place_all.false) c.used_cells-count.ensures.value (c.put_outputs-outcome.ensures.count_value ∙ ap (as_outputs _ _) c.in_default.is); bounded = search rules }
+pub returns-in_err-entries-clause-text_value : goal.returns-in_err-entries-clause-text_value
+returns-in_err-entries-clause-text_value c = rw c.from_residual.ensures (fit_over (patterns_of c.args.text.now) c.requires.0 c.requires.1 refl (c.place_all.ensures.placed.fits c.if-not-place_all.false) c.used_cells-count.ensures.value (c.put_outputs.ensures.count_value ∙ ap (as_outputs _ _) c.in_err-entries.was))
 
 pub put_kinds-requires : goal.put_kinds-requires
-put_kinds-requires c = (omega (arith, size_kept cell_room c.requires.0 (c.put_outputs-outcome.auto.cells ∙ c.place_all.auto.cells), c.used_cells-count.ensures.lower_bound), c.used_cells-count.ensures.lower_bound.1)
+put_kinds-requires c = (omega (arith, size_kept cell_room c.requires.0 (c.put_outputs.auto.cells ∙ c.place_all.auto.cells), c.used_cells-count.ensures.lower_bound), c.used_cells-count.ensures.lower_bound.1)
 
 pub returns : goal.returns
-returns c = record { text_value = fit_laid (patterns_of c.args.text.now) c.requires.0 c.requires.1 refl (c.place_all.ensures.placed.fits c.if-not-place_all.false) c.used_cells-count.ensures.value (c.put_outputs-outcome.ensures.count_value ∙ ap (as_outputs _ _) c.in-Out.is) c.put_kinds.ensures; bounded = (c.used_cells-count.ensures.lower_bound.1, subst (λ e. entries_in e ≤ entry_limit) c.in-Out.is c.put_outputs-outcome.ensures.result_bound) }
+returns c = record { text_value = fit_laid (patterns_of c.args.text.now) c.requires.0 c.requires.1 refl (c.place_all.ensures.placed.fits c.if-not-place_all.false) c.used_cells-count.ensures.value (c.put_outputs.ensures.count_value ∙ ap (as_outputs _ _) c.in_ok-entries.was) c.put_kinds.ensures; bounded = (c.used_cells-count.ensures.lower_bound.1, subst (λ e. entries_in e ≤ entry_limit) c.in_ok-entries.was c.put_outputs.ensures.result_bound) }

@@ -17,10 +17,10 @@ pub returns-in_default : goal.returns-in_default
 returns-in_default c = lays_nothing c.args.room.now c.fill-filled.new.cells c.requires.0 c.fill-filled.auto.cells c.args.text.now (c.fill-filled.ensures.text_value ∙ ap (as_fit _ _) c.in_default.is) c.clear_from.ensures
 
 pub finish-size-requires : goal.finish-size-requires
-finish-size-requires c = (filled_holds c.args.room.now c.fill-filled.new.cells c.requires.0 c.fill-filled.auto.cells, c.fill-filled.auto.made, (subst Bounded c.in-Laid.is c.fill-filled.ensures.bounded).0, (subst Bounded c.in-Laid.is c.fill-filled.ensures.bounded).1)
+finish-size-requires c = (filled_holds c.args.room.now c.fill-filled.new.cells c.requires.0 c.fill-filled.auto.cells, c.fill-filled.auto.made, (subst Bounded c.in-Some.is c.fill-filled.ensures.bounded).0, (subst Bounded c.in-Some.is c.fill-filled.ensures.bounded).1)
 
 pub shape_of-room : goal.shape_of-room
 shape_of-room c = c.finish-size.auto.room ∙ filled_length c.args.room.now c.fill-filled.new.cells c.requires.0 c.fill-filled.auto.cells
 
 pub returns : goal.returns
-returns c = lays_table c.args.room.now c.fill-filled.new.cells c.requires.0 c.fill-filled.auto.cells c.args.text.now _ _ _ (subst Bounded c.in-Laid.is c.fill-filled.ensures.bounded).0 (c.fill-filled.ensures.text_value ∙ ap (as_fit _ _) c.in-Laid.is) c.finish-size.ensures.value c.finish-size.ensures.room_after
+returns c = lays_table c.args.room.now c.fill-filled.new.cells c.requires.0 c.fill-filled.auto.cells c.args.text.now _ _ _ (subst Bounded c.in-Some.is c.fill-filled.ensures.bounded).0 (c.fill-filled.ensures.text_value ∙ ap (as_fit _ _) c.in-Some.is) c.finish-size.ensures.value c.finish-size.ensures.room_after

@@ -32,17 +32,11 @@ slice_bounds-enter_levels-start c = omega (arith, line_starts _ _ _ c.loop-at-te
 pub slice_bounds-enter_levels-end : goal.slice_bounds-enter_levels-end
 slice_bounds-enter_levels-end c = line_ends _ _ _ c.loop-at-test.true c.line_end-end.ensures
 
-pub enter_levels-step-requires : goal.enter_levels-step-requires
-enter_levels-step-requires c = (c.loop-at.invariant.1, c.loop-at.invariant.4, omega (arith, c.symbol_count-m.ensures, line_shaped _ _ _ c.loop-at-test.true c.line_end-end.ensures c.loop-at.invariant.5))
+pub enter_levels-requires : goal.enter_levels-requires
+enter_levels-requires c = (c.loop-at.invariant.1, c.loop-at.invariant.4, omega (arith, c.symbol_count-m.ensures, line_shaped _ _ _ c.loop-at-test.true c.line_end-end.ensures c.loop-at.invariant.5))
 
-pub shape_of-cells-in_default : goal.shape_of-cells-in_default
-shape_of-cells-in_default c = c.loop-at.invariant.3
-
-pub shape_of-made-in_default : goal.shape_of-made-in_default
-shape_of-made-in_default c = c.enter_levels-step.auto.bytes ∙ c.loop-at.invariant.1 ∙ sym c.loop-at.invariant.2
-
-pub returns-in_default : goal.returns-in_default
-returns-in_default c = record { count_value = c.loop-at.invariant.6 ∙ outputs_many _ _ _ c.loop-at-test.true c.line_end-end.ensures _ _ _ _ _ c.symbol_count-m.ensures (c.enter_levels-step.ensures.count_value ∙ ap (as_entries _) c.in_default.is) refl; result_bound = search rules }
+pub returns-in_err-step-clause-count_value : goal.returns-in_err-step-clause-count_value
+returns-in_err-step-clause-count_value c = rw c.from_residual.ensures (c.loop-at.invariant.6 ∙ outputs_many _ _ _ c.loop-at-test.true c.line_end-end.ensures _ _ _ _ _ c.symbol_count-m.ensures (c.enter_levels.ensures.count_value ∙ ap (as_entries _) c.in_err-step.was) refl)
 
 pub slice_bounds-put_output-count : goal.slice_bounds-put_output-count
 slice_bounds-put_output-count c = omega (arith, line_starts _ _ _ c.loop-at-test.true c.line_end-end.ensures)
@@ -62,12 +56,12 @@ loop-at-smaller c = omega (arith, line_starts _ _ _ c.loop-at-test.true c.line_e
 pub loop-at-preserved : goal.loop-at-preserved
 loop-at-preserved c = (
   line_ends _ _ _ c.loop-at-test.true c.line_end-end.ensures,
-  c.enter_levels-step.auto.bytes ∙ c.loop-at.invariant.1,
+  c.enter_levels.auto.bytes ∙ c.loop-at.invariant.1,
   c.loop-at.invariant.2,
   c.put_output.auto.cells ∙ c.loop-at.invariant.3,
-  subst (λ e. count_of e ≤ entry_limit) c.in-Made.is c.enter_levels-step.ensures.result_bound,
+  subst (λ e. count_of e ≤ entry_limit) c.in_ok-step.was c.enter_levels.ensures.result_bound,
   shaped_on _ _ _ c.loop-at-test.true c.line_end-end.ensures c.loop-at.invariant.5,
-  c.loop-at.invariant.6 ∙ outputs_on _ _ _ c.loop-at-test.true c.line_end-end.ensures _ _ _ _ _ c.symbol_count-m.ensures (c.enter_levels-step.ensures.count_value ∙ ap (as_entries _) c.in-Made.is) refl c.put_output.ensures,
+  c.loop-at.invariant.6 ∙ outputs_on _ _ _ c.loop-at-test.true c.line_end-end.ensures _ _ _ _ _ c.symbol_count-m.ensures (c.enter_levels.ensures.count_value ∙ ap (as_entries _) c.in_ok-step.was) refl c.put_output.ensures,
 )
 
 pub shape_of-cells : goal.shape_of-cells

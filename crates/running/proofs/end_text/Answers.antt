@@ -3,11 +3,11 @@ use Rattle.running.proofs.Calls.{refused, end_judged, end_asks, end_found}
 use Rattle.running.proofs.Order.{end_ordered, promised}
 use Rattle.running.proofs.end_text.Goals as goal
 
-pub returns-in-Refused : goal.returns-in-Refused
-returns-in-Refused c = promised (end_ordered _ _ _ _ _ _ _) (refused _ _ _ _ _ (end_judged c.args.state _ c.read_state-s.ensures c.args.left c.args.right c.args.customer.now c.args.house.now c.args.table.now c.args.room.now (judged_by (end_ordered _ _ _ _ _ _ _) c.judge_end-judged.ensures)) c.in-Refused.is)
+pub returns-in-Err : goal.returns-in-Err
+returns-in-Err c = promised (end_ordered _ _ _ _ _ _ _) (refused _ _ _ _ _ (end_judged c.args.state _ c.read_state-s.ensures c.args.left c.args.right c.args.customer.now c.args.house.now c.args.table.now c.args.room.now (judged_by (end_ordered _ _ _ _ _ _ _) c.judge_end.ensures)) c.in-Err.is)
 
 pub flow_end-requires : goal.flow_end-requires
-flow_end-requires c = end_asks c.args.state _ c.read_state-s.ensures c.args.left c.args.right c.args.customer.now c.args.house.now c.args.table.now c.args.room.now (judged_by (end_ordered _ _ _ _ _ _ _) c.judge_end-judged.ensures) c.in_default.is
+flow_end-requires c = end_asks c.args.state _ c.read_state-s.ensures c.args.left c.args.right c.args.customer.now c.args.house.now c.args.table.now c.args.room.now (judged_by (end_ordered _ _ _ _ _ _ _) c.judge_end.ensures) c.in_default.is
 
 pub returns : goal.returns
-returns c = promised (end_ordered _ _ _ _ _ _ _) (end_found c.args.state _ c.read_state-s.ensures c.args.left c.args.right c.args.customer.now c.args.house.now c.args.table.now c.args.room.now (judged_by (end_ordered _ _ _ _ _ _ _) c.judge_end-judged.ensures) c.in_default.is c.new_text.ensures c.flow_end.ensures)
+returns c = promised (end_ordered _ _ _ _ _ _ _) (end_found c.args.state _ c.read_state-s.ensures c.args.left c.args.right c.args.customer.now c.args.house.now c.args.table.now c.args.room.now (judged_by (end_ordered _ _ _ _ _ _ _) c.judge_end.ensures) c.in_default.is c.new_text.ensures c.flow_end.ensures)
