@@ -58,7 +58,7 @@ pub const CUSTOMER_LIST: usize = 1;
 pub const HOUSE_LIST: usize = 2;
 
 // Why a call refuses, with the list and the offset where document 01 tells a place.
-#[derive(Clone, Copy)]
+#[derive(Clone, Copy, Debug, PartialEq, Eq)]
 pub enum Ground {
     Margin,
     WordEmpty,
@@ -87,7 +87,7 @@ pub fn number_of(ground: Ground) -> usize
         Ground::NotLetter(_) => 3,
         Ground::WordLong => 4,
         Ground::RoomShort => 5,
-        Ground::BadException { list: _, offset: _ } => 6,
+        Ground::BadException { .. } => 6,
         Ground::BadPattern(_) => 7,
         Ground::TextLong => 8,
         Ground::TableForm => 9,
@@ -105,21 +105,8 @@ pub fn list_of(ground: Ground) -> usize
     ensures { result ≡ (told ground).list }
 {
     match ground {
-        Ground::Margin => 0,
-        Ground::WordEmpty => 0,
-        Ground::NotLetter(_) => 0,
-        Ground::WordLong => 0,
-        Ground::RoomShort => 0,
-        Ground::BadException { list, offset: _ } => list,
-        Ground::BadPattern(_) => 0,
-        Ground::TextLong => 0,
-        Ground::TableForm => 0,
-        Ground::PackRoomShort => 0,
-        Ground::NoFit => 0,
-        Ground::NotRight => 0,
-        Ground::BadWidth => 0,
-        Ground::TextRoomShort => 0,
-        Ground::RunningLong => 0,
+        Ground::BadException { list, .. } => list,
+        _ => 0,
     }
 }
 
@@ -128,20 +115,9 @@ pub fn place_of(ground: Ground) -> usize
     ensures { result ≡ (told ground).place }
 {
     match ground {
-        Ground::Margin => 0,
-        Ground::WordEmpty => 0,
         Ground::NotLetter(at) => at,
-        Ground::WordLong => 0,
-        Ground::RoomShort => 0,
-        Ground::BadException { list: _, offset } => offset,
+        Ground::BadException { offset, .. } => offset,
         Ground::BadPattern(offset) => offset,
-        Ground::TextLong => 0,
-        Ground::TableForm => 0,
-        Ground::PackRoomShort => 0,
-        Ground::NoFit => 0,
-        Ground::NotRight => 0,
-        Ground::BadWidth => 0,
-        Ground::TextRoomShort => 0,
-        Ground::RunningLong => 0,
+        _ => 0,
     }
 }

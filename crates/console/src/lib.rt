@@ -1,7 +1,7 @@
 // What the programs share: files that arguments name, and the line of a refusal.
 #![tactic(auto)]
 
-ghost use Rattle.std.specs.Prelude.{◌≤◌, length, IfOk};
+ghost use Rattle.std.specs.Prelude.{◌≤◌, length, IfOk, IfSome};
 
 use base::Ground;
 use paths::PATH_MAX;
@@ -18,13 +18,6 @@ pub enum Stream {
     Errors,
 }
 
-// What came of reading a file: whether it could be opened and read, and how many bytes of it are in the buffer.
-#[derive(Clone, Copy)]
-pub struct Read {
-    pub done: bool,
-    pub size: usize,
-}
-
 // The system's numbers for an argument that is missing, and for one that doesn't fit.
 const INVALID: i32 = 22;
 
@@ -33,26 +26,17 @@ const NAME_TOO_LONG: i32 = 36;
 // The system's words for an error and its number behind them have fewer bytes.
 const REASON_LIMIT: usize = 128;
 
-// Reads once.
-fn read_some(file: &mut File, part: &mut [u8]) -> Result<usize>
-    ensures { IfOk result (λ size. size ≤ length part.new) }
-{
-    file.read(part)
-}
-
 // Reads until the file ends or the buffer is full. Each turn but the last reads at least a byte, so that as many turns as there are
 // bytes are enough.
 fn read_all(file: &mut File, bytes: &mut [u8]) -> Result<usize>
     ensures { IfOk result (λ size. size ≤ length bytes.new) }
 {
     let mut size = 0;
-    let mut turns = bytes.len();
-    while turns > 0 {
-        turns -= 1;
-        let more = read_some(file, &mut bytes[size..])?;
+    for _ in 0..bytes.len() {
+        let more = file.read(&mut bytes[size..])?;
         size += more;
         if more == 0 {
-            turns = 0;
+            break;
         }
     }
     Ok(size)
@@ -114,13 +98,9 @@ pub fn read_argument(
     tells: bool,
     i: usize,
     bytes: &mut [u8],
-) -> Read
-    ensures { result.size ≤ length bytes.new }
+) -> Option<usize>
+    ensures { IfSome result (λ size. size ≤ length bytes.new) }
 {
-    let undone = Read {
-        done: false,
-        size: 0,
-    };
     let mut path = [0u8; PATH_MAX];
     let n = match put_argument(rt, i, &mut path) {
         Ok(n) => n,
@@ -128,19 +108,16 @@ pub fn read_argument(
             if tells {
                 tell(rt, program, b"a name", e);
             }
-            return undone;
+            return None;
         }
     };
     match read_file(rt, &path[..n], bytes) {
-        Ok(size) => Read {
-            done: true,
-            size: size,
-        },
+        Ok(size) => Some(size),
         Err(e) => {
             if tells {
                 tell(rt, program, &path[..n], e);
             }
-            undone
+            None
         }
     }
 }

@@ -24,8 +24,7 @@ use Rattle.table.specs.Table.{table_grounds}
 use Rattle.rightness.specs.Test.{check_grounds}
 use Rattle.fit.specs.Table.{first_fit}
 use Rattle.hyphenation.specs.Calls.{room_grounds, margin_grounds, levels_grounds, hyphenate_grounds, answer_said, room_left, Answers, Levels, Breaks, Answer}
-use Rattle.packer.specs.Pack.{pack_grounds, fit_bytes, packing_said, pack_said, pack_left, Packs}
-use Rattle.packer.specs.declared.Packing.{Packing}
+use Rattle.packer.specs.Pack.{pack_grounds, fit_bytes, packing_said, pack_said, pack_left, Packs, Packing}
 use Rattle.gauge.specs.Fit.{fit_grounds, fit_said, fit_answer}
 use Rattle.gauge.specs.declared.Gauge.{Gauge}
 use Rattle.base.specs.declared.Ground.{Ground}
@@ -35,9 +34,8 @@ use Rattle.running.specs.Calls.{setting_grounds, piece_grounds, end_grounds, tex
 use Rattle.running.specs.declared.Taken.{Taken}
 use Rattle.states.specs.State.{read_state}
 use Rattle.machine1980.specs.Run.{Outcome, RanOut, machine}
-use Rattle.machine1980.specs.Calls.{grounds1980, said1980, left_by, answer1980, room1980, Reprints}
+use Rattle.machine1980.specs.Calls.{grounds1980, said1980, left_by, answer1980, room1980, Reprints, Answer1980}
 use Rattle.machine1980.specs.Calls as reprint
-use Rattle.machine1980.specs.declared.Answer1980.{Answer1980}
 
 -- What demand 1 says of one answer of a call with this order of grounds.
 pub record Numbered (order : List ℕ) (grounds : List Row) (said : Said) : Type 0 where

@@ -4,7 +4,7 @@
 
 mod status;
 
-ghost use Rattle.std.specs.Prelude.{IfOk};
+ghost use Rattle.std.specs.Prelude.{IfOk, IfSome};
 ghost use Rattle.io.specs.Counts.{IsPrefixLen};
 
 use paths::PATH_MAX;
@@ -43,9 +43,12 @@ fn is_regular(file: Status) -> bool {
 
 // Do two names stand for one file?
 pub fn is_same(rt: &HostRuntime, a: &[u8], b: &[u8]) -> bool {
-    let first = status::status_of(rt, a);
-    let second = status::status_of(rt, b);
-    first.found && second.found && first.device == second.device && first.number == second.number
+    match (status::status_of(rt, a), status::status_of(rt, b)) {
+        (Some(first), Some(second)) => {
+            first.device == second.device && first.number == second.number
+        }
+        _ => false,
+    }
 }
 
 // Bytes to whatever has the name: a pipe or a device.
@@ -64,10 +67,10 @@ fn check_writable(rt: &HostRuntime, path: &[u8]) -> Result<()> {
 }
 
 // The new file is read and written by whom the old one was. Another's file can't be given back to its owner by just anyone.
-fn keep_rights(file: &File, old: Status) -> Result<()> {
-    if !old.found {
+fn keep_rights(file: &File, old: Option<Status>) -> Result<()> {
+    let Some(old) = old else {
         return Ok(());
-    }
+    };
     if let Err(e) = fchown(file, Some(old.owner), Some(old.group)) {
         if e.raw_os_error() != Some(NOT_PERMITTED) {
             return Err(e);
@@ -77,7 +80,7 @@ fn keep_rights(file: &File, old: Status) -> Result<()> {
 }
 
 // All bytes of the new file, on the disk.
-fn fill(file: &mut File, bytes: &[u8], old: Status) -> Result<()> {
+fn fill(file: &mut File, bytes: &[u8], old: Option<Status>) -> Result<()> {
     file.write_all(bytes)?;
     keep_rights(file, old)?;
     file.sync_all()
@@ -86,7 +89,7 @@ fn fill(file: &mut File, bytes: &[u8], old: Status) -> Result<()> {
 // A new file and its name's size.
 #[derive(Drop)]
 struct Made {
-    file: Result<File>,
+    file: File,
     size: usize,
 }
 
@@ -99,22 +102,15 @@ fn create(rt: &HostRuntime, path: &[u8]) -> Result<File> {
 }
 
 // Makes a file in the folder of a path, and puts its name into a room.
-fn make_beside(rt: &HostRuntime, path: &[u8], room: &mut [u8]) -> Made
-    ensures { IsPrefixLen result.size room.new }
+fn make_beside(rt: &HostRuntime, path: &[u8], room: &mut [u8]) -> Result<Made>
+    ensures { IfOk result (λ made. IsPrefixLen made.size room.new) }
 {
     let mut name = [0u8; NAME_SIZE];
-    if let Err(e) = rt.fill_bytes(&mut name) {
-        return Made {
-            file: Err(e),
-            size: 0,
-        };
-    }
+    rt.fill_bytes(&mut name)?;
     paths::put_fresh(&mut name);
     let size = paths::put_beside(path, &name, room);
-    Made {
-        file: create(rt, &room[..size]),
-        size: size,
-    }
+    let file = create(rt, &room[..size])?;
+    Ok(Made { file, size })
 }
 
 // Opens a file or a folder for reading.
@@ -147,7 +143,7 @@ fn take_name(
     name: &[u8],
     path: &[u8],
     bytes: &[u8],
-    old: Status,
+    old: Option<Status>,
 ) -> Result<()> {
     let mut file = made;
     fill(&mut file, bytes, old)?;
@@ -156,13 +152,13 @@ fn take_name(
 }
 
 // Replaces a file, or makes it where there is none. Whatever fails, the old one stays and the new one is removed.
-fn replace(rt: &HostRuntime, path: &[u8], bytes: &[u8], old: Status) -> Result<()> {
-    if old.found {
+fn replace(rt: &HostRuntime, path: &[u8], bytes: &[u8], old: Option<Status>) -> Result<()> {
+    if old.is_some() {
         check_writable(rt, path)?;
     }
     let mut name = [0u8; PATH_MAX];
-    let Made { file, size } = make_beside(rt, path, &mut name);
-    match take_name(rt, file?, &name[..size], path, bytes, old) {
+    let Made { file, size } = make_beside(rt, path, &mut name)?;
+    match take_name(rt, file, &name[..size], path, bytes, old) {
         Ok(()) => {
             flush_folder(rt, path);
             Ok(())
@@ -180,42 +176,29 @@ fn is_no_text(error: &Error) -> bool {
 }
 
 // The text of a link, none where the name is no link's. A link whose text can't be had is an error, since the link must stay.
-fn read_link(rt: &HostRuntime, path: &[u8], text: &mut [u8]) -> Result<usize>
-    ensures { IfOk result (λ size. IsPrefixLen size text.new) }
+fn read_link(rt: &HostRuntime, path: &[u8], text: &mut [u8]) -> Result<Option<usize>>
+    ensures { IfOk result (λ told. IfSome told (λ size. IsPrefixLen size text.new)) }
 {
     match fs::read_link(rt, paths::as_text(path)?) {
-        Ok(link) => Ok(paths::put_name(link.as_str().as_bytes(), text, 0)),
+        Ok(link) if link.as_str().is_empty() => Ok(None),
+        Ok(link) => Ok(Some(paths::put_name(link.as_str().as_bytes(), text, 0))),
         Err(e) if is_no_text(&e) => Err(Error::from_raw_os_error(NO_TEXT)),
         Err(e) if e.kind() == ErrorKind::OutOfMemory => Err(e),
-        Err(_) => Ok(0),
+        Err(_) => Ok(None),
     }
 }
 
-// A path in a room, and whether a link was followed to it.
-#[derive(Clone, Copy)]
-struct Followed {
-    size: usize,
-    linked: bool,
-}
-
-// Follows one link.
-fn follow_once(rt: &HostRuntime, room: &mut [u8], size: usize) -> Result<Followed>
+// Follows one link. Where the path in the room is none's, there is no path that it stands for.
+fn follow_once(rt: &HostRuntime, room: &mut [u8], size: usize) -> Result<Option<usize>>
     requires { IsPrefixLen size room.old }
-    ensures { IfOk result (λ next. IsPrefixLen next.size room.new) }
+    ensures { IfOk result (λ told. IfSome told (λ next. IsPrefixLen next room.new)) }
 {
     let mut text = [0u8; PATH_MAX];
-    let n = read_link(rt, &room[..size], &mut text)?;
-    if n == 0 {
-        return Ok(Followed {
-            size: size,
-            linked: false,
-        });
-    }
+    let Some(n) = read_link(rt, &room[..size], &mut text)? else {
+        return Ok(None);
+    };
     let at = paths::link_start(&room[..size], &text[..n]);
-    Ok(Followed {
-        size: paths::put_name(&text[..n], room, at),
-        linked: true,
-    })
+    Ok(Some(paths::put_name(&text[..n], room, at)))
 }
 
 // Puts into a room the path that a name stands for, where the last of its links leads: there the file is replaced, and the links stay.
@@ -223,14 +206,11 @@ fn follow(rt: &HostRuntime, path: &[u8], room: &mut [u8]) -> Result<usize>
     ensures { IfOk result (λ size. IsPrefixLen size room.new) }
 {
     let mut size = paths::put_name(path, room, 0);
-    let mut turns = LINK_LIMIT;
-    while turns > 0 {
-        turns -= 1;
-        let next = follow_once(rt, room, size)?;
-        size = next.size;
-        if !next.linked {
-            turns = 0;
-        }
+    for _ in 0..LINK_LIMIT {
+        let Some(next) = follow_once(rt, room, size)? else {
+            break;
+        };
+        size = next;
     }
     Ok(size)
 }
@@ -246,7 +226,7 @@ fn check_free(rt: &HostRuntime, path: &[u8], untold: Error) -> Result<()> {
 }
 
 // Replaces the file that a name's links lead to, or makes it.
-fn replace_linked(rt: &HostRuntime, path: &[u8], bytes: &[u8], old: Status) -> Result<()> {
+fn replace_linked(rt: &HostRuntime, path: &[u8], bytes: &[u8], old: Option<Status>) -> Result<()> {
     let mut room = [0u8; PATH_MAX];
     let n = follow(rt, path, &mut room)?;
     replace(rt, &room[..n], bytes, old)
@@ -257,10 +237,10 @@ fn replace_linked(rt: &HostRuntime, path: &[u8], bytes: &[u8], old: Status) -> R
 pub fn save(rt: &HostRuntime, path: &[u8], bytes: &[u8]) -> Result<()> {
     match status::find(rt, path) {
         Ok(old) if !is_regular(old) => write_through(rt, path, bytes),
-        Ok(old) => replace_linked(rt, path, bytes, old),
+        Ok(old) => replace_linked(rt, path, bytes, Some(old)),
         Err(e) => {
             check_free(rt, path, e)?;
-            replace_linked(rt, path, bytes, status::absent())
+            replace_linked(rt, path, bytes, None)
         }
     }
 }

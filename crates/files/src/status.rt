@@ -4,11 +4,9 @@ use std::fs::Metadata;
 use std::io::Result;
 use std::os::unix::fs::MetadataExt;
 
-// Whether a file was found under the name, its kind and mode, whose it is, and which file it is.
-// Where none was found, every other field is 0.
+// The kind and mode of a file that was found under the name, whose it is, and which file it is.
 #[derive(Clone, Copy)]
 pub struct Status {
-    pub found: bool,
     pub mode: u32,
     pub owner: u32,
     pub group: u32,
@@ -17,11 +15,8 @@ pub struct Status {
 }
 
 // Links are followed. Under a path that the system cannot be handed whole, nothing is found.
-pub fn status_of(rt: &HostRuntime, path: &[u8]) -> Status {
-    match find(rt, path) {
-        Ok(found) => found,
-        Err(_) => absent(),
-    }
+pub fn status_of(rt: &HostRuntime, path: &[u8]) -> Option<Status> {
+    find(rt, path).ok()
 }
 
 // The same of a file that is found. Where none is, the error says why.
@@ -37,22 +32,10 @@ fn ask(rt: &HostRuntime, path: &[u8]) -> Result<Metadata> {
 
 fn told(asked: &Metadata) -> Status {
     Status {
-        found: true,
         mode: asked.mode(),
         owner: asked.uid(),
         group: asked.gid(),
         device: asked.dev(),
         number: asked.ino(),
-    }
-}
-
-pub fn absent() -> Status {
-    Status {
-        found: false,
-        mode: 0,
-        owner: 0,
-        group: 0,
-        device: 0,
-        number: 0,
     }
 }

@@ -8,7 +8,7 @@ use borrow.Author.Tests.{leb-false}
 use lib.Dec.{leb}
 use lib.ListN.{length}
 use Rattle.base.specs.Limits.{word_limit1980, short_word1980}
-use Rattle.std.specs.Prelude.{Ok, Err}
+use Rattle.std.specs.Prelude.{Ok}
 use Rattle.words.specs.Words.{judge_letters}
 use Rattle.sheet1980.specs.Sheet.{u, mem, sheet_of, Sheet}
 use Rattle.suffix1980.specs.Suffixes.{infinity, sufbegin, Suffixed, phase2}

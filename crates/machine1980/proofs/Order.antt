@@ -14,10 +14,8 @@ use Rattle.rooms.specs.Rooms.{is_short}
 use Rattle.words.specs.Words.{judge_letters}
 use Rattle.words.proofs.Order.{letters_ordered}
 use Rattle.machine1980.specs.Run.{machine}
-use Rattle.machine1980.specs.Calls.{grounds1980, judge1980, said1980, values_of, answer1980, room_left, room1980, Reprints}
+use Rattle.machine1980.specs.Calls.{grounds1980, judge1980, said1980, values_of, answer1980, room_left, room1980, Reprints, Answer1980}
 use Rattle.machine1980.specs.Post.{Answered}
-use Rattle.machine1980.specs.declared.Answer1980.{Answer1980}
-use Rattle.machine1980.specs.declared.Answer1980.TheVariants as answers
 
 pub ordered_1980 : (word : List ℕ) (size : ℕ) → Ordered (judge1980 word size) (grounds1980 word size)
 unfolding judge1980 grounds1980
@@ -40,11 +38,11 @@ module _ (budget : ℕ) (word room : List ℕ) {judged : Check} (p : says judged
   judged_as : {c : Check} → judged ≡ c → Ordered c (grounds1980 word (length room))
   judged_as e = record { same = ap says (sym e) ∙ p }
 
-  pub refused : {g : Ground} → judged ≡ Err g → Reprints budget word room (answers.Refused g) room
+  pub refused : {g : Ground} {r : Answer1980} → judged ≡ Err g → r ≡ Err g → Reprints budget word room r room
   unfolding said1980 answer1980 room1980
-  refused e =
+  refused e f =
       let s = said_refused_lem (judged_as e) (values_of (length word) (machine budget word)) in
-      record { answered = sym s; memory = ap (λ (x : Said). room_left x (machine budget word) (length word) room) (sym s) }
+      record { answered = ap said1980 f ∙ sym s; memory = ap (λ (x : Said). room_left x (machine budget word) (length word) room) (sym s) }
 
   pub found : (r : Answer1980) (after : List ℕ) → judged ≡ Ok tt → Answered budget word room r after → Reprints budget word room r after
   unfolding answer1980 room1980

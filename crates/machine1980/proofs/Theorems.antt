@@ -9,7 +9,7 @@ use lib.Dec.{leb}
 use lib.ListN.{length}
 use Rattle.base.specs.Limits.{word_limit1980, short_word1980, budget1980}
 use Rattle.base.specs.Grounds.{Said, Finds, Refuses, first_of, Check}
-use Rattle.std.specs.Prelude.{Ok, Err}
+use Rattle.std.specs.Prelude.{Ok, Err, None}
 use Rattle.base.proofs.Grounds.{Ordered, said_found, said_refused_lem, no_refusal}
 use Rattle.base.proofs.Lists.{both, clash}
 use Rattle.words.specs.Words.{judge_letters}
@@ -19,9 +19,7 @@ use Rattle.suffix1980.specs.Suffixes.{infinity, sufbegin, rows_fetched, all_inst
 use Rattle.suffix1980.proofs.Masks.{no_mask_fetched}
 use Rattle.machine1980.specs.Run.{Outcome, RanOut, Marked, machine}
 use Rattle.machine1980.specs.Breaks.{shows, in_print, is_break}
-use Rattle.machine1980.specs.Calls.{grounds1980, judge1980, answered_found, ran_out_found, said1980, values_of, answer1980, room_left, room1980, Reprints}
-use Rattle.machine1980.specs.declared.Answer1980.{Answer1980}
-use Rattle.machine1980.specs.declared.Answer1980.TheVariants as answers
+use Rattle.machine1980.specs.Calls.{grounds1980, judge1980, answered_found, ran_out_found, said1980, values_of, answer1980, room_left, room1980, Reprints, Answer1980}
 use Rattle.machine1980.proofs.Order.{ordered_1980, judged_fine}
 use Rattle.machine1980.proofs.Written.{written, all_letters}
 use Rattle.machine1980.proofs.Laws.{short_machine, no_marks_short}
@@ -84,7 +82,7 @@ no_ran_out n most (Marked finale marks executed) w e = clash (ap (λ (s : Said).
     first_value (Finds (v ∷ values)) = v
     first_value (Refuses t) = 0
 
-pub never_ran_out : (word room after : List ℕ) (r : Answer1980) → Reprints budget1980 word room r after → r ≡ answers.RanOut → ⊥
+pub never_ran_out : (word room after : List ℕ) (r : Answer1980) → Reprints budget1980 word room r after → r ≡ Ok None → ⊥
 unfolding said1980 answer1980
 never_ran_out word room after r p e = go (judge1980 word (length room)) refl
   where

@@ -7,7 +7,7 @@ use native.Mathlib.Omega.{arith}
 use borrow.Author.Tests.{ltb-true, ltb-false, le-ltb}
 use lib.Dec.{leb, ltb}
 use lib.ListN.{length, get_or, length-append, length-map}
-use Rattle.std.specs.Prelude.{Ok, Err}
+use Rattle.std.specs.Prelude.{Ok}
 use Rattle.words.specs.Symbols.{small, capital, letter}
 use Rattle.words.specs.Words.{judge_letters}
 use Rattle.words.proofs.Laws.{range_low, range_high, letters_byte}

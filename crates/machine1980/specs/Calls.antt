@@ -1,14 +1,14 @@
 -- The call: its grounds in order, its answer, and what it leaves in the room.
-use Rattle.std.specs.Prelude.{ℕ, List, [], ◌∷◌, ◌≡◌, length}
+use Rattle.std.specs.Prelude.{ℕ, List, [], ◌∷◌, ◌≡◌, length, Ok, Err, Some, None, Result, Option}
 use Rattle.base.specs.Limits.{word_limit1980, room_size1980}
 use Rattle.base.specs.Grounds.{told, Said, Finds, Refuses, Row, on, first_of, first, refuse_if, Check}
+use Rattle.base.specs.declared.Ground.{Ground}
 use Rattle.base.specs.declared.Ground.TheVariants.{RoomShort}
 use Rattle.words.specs.Words.{letter_grounds, judge_letters}
 use Rattle.rooms.specs.Rooms.{is_short, written, nonzero}
 use Rattle.machine1980.specs.Run.{Outcome, RanOut, Marked, machine}
 use Rattle.machine1980.specs.Breaks.{break_sheet}
-use Rattle.machine1980.specs.declared.Answer1980.{Answer1980}
-use Rattle.machine1980.specs.declared.Answer1980.TheVariants as answers
+use Rattle.machine1980.specs.declared.Reprint.{Reprint}
 
 -- "Words are judged as before (5, 2, 4, 3)", with limits of this call's own.
 unfoldable pub grounds1980 : List ℕ → ℕ → List Row
@@ -28,11 +28,18 @@ answered_found breaks executed = answered_outcome ∷ breaks ∷ executed ∷ []
 abbrev pub ran_out_found : List ℕ
 ran_out_found = ran_out_outcome ∷ 0 ∷ 0 ∷ []
 
+-- The answer: a finding, none where the budget runs out, or why the call refuses.
+abbrev pub Answer1980 : Type 0
+Answer1980 = Result (Option Reprint) Ground
+
+abbrev pub reprint : ℕ → ℕ → Answer1980
+reprint breaks executed = Ok (Some (record { breaks = breaks; executed = executed }))
+
 -- What each case of the answer says.
 unfoldable pub said1980 : Answer1980 → Said
-said1980 (answers.Found breaks executed) = Finds (answered_found breaks executed)
-said1980 answers.RanOut = Finds ran_out_found
-said1980 (answers.Refused g) = Refuses (told g)
+said1980 (Ok (Some r)) = Finds (answered_found r.breaks r.executed)
+said1980 (Ok None) = Finds ran_out_found
+said1980 (Err g) = Refuses (told g)
 
 -- What is found of a word of n letters.
 unfoldable pub values_of : ℕ → Outcome → List ℕ

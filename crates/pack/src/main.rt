@@ -4,7 +4,6 @@
 #![tactic(auto)]
 
 use console::Stream;
-use packer::Packing;
 use paths::PATH_MAX;
 
 // How many arguments there are at most, the program's name included: with so many, the last is the table file.
@@ -84,30 +83,24 @@ fn put_table(rt: &HostRuntime, table: &[u8]) -> bool {
 
 fn run(rt: &HostRuntime, patterns: &[u8]) {
     let mut room = [0u8; ROOM];
-    let packing = packer::pack(patterns, &mut room);
-    if let Err(g) = packing {
-        console::print_refusal(rt, b"pack", refusals(rt), g);
-        return;
-    }
-    if let Ok(size) = packing {
-        if size <= room.len() {
-            if !put_table(rt, &room[0..size]) {
+    match packer::pack(patterns, &mut room) {
+        Ok(size) => {
+            if size <= room.len() && !put_table(rt, &room[..size]) {
                 console::print_undone(rt, b"pack", refusals(rt));
             }
         }
+        Err(g) => console::print_refusal(rt, b"pack", refusals(rt), g),
     }
 }
 
 // The file is read with room for one byte more than its limit, so that a longer one is told from one that has just as many.
 fn pack_file(rt: &HostRuntime) {
     let mut patterns = [0u8; base::PATTERN_TEXT + 1];
-    let read = console::read_argument(rt, b"pack", true, 1, &mut patterns);
-    if !read.done {
+    let Some(n) = console::read_argument(rt, b"pack", true, 1, &mut patterns) else {
         console::print_undone(rt, b"pack", refusals(rt));
         return;
-    }
-    let n = read.size;
-    run(rt, &patterns[0..n]);
+    };
+    run(rt, &patterns[..n]);
 }
 
 fn main(rt: HostRuntime) {

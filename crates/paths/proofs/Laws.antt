@@ -1,14 +1,15 @@
 -- One law for each way through the code.
-use Prim.Native.Nat.{ℕ, zero, suc, ◌+◌, ◌-◌, ◌≤◌, ◌<◌}
-use mathlib.Core.Bool.{Bool, true, false, cond}
+use Prim.Native.Nat.{ℕ, zero, suc, ◌+◌, ◌≤◌, ◌<◌}
+use mathlib.Core.Bool.{Bool, true, false, cond, not, ◌||◌, ◌&&◌}
 use mathlib.Core.List.{List, [], ◌∷◌, map}
 use mathlib.Core.Path.{◌≡◌, refl, sym, ◌∙◌, ap, subst}
 use native.Mathlib.Omega.{arith}
-use borrow.Author.Tests.{eq-eqb, ne_eqb, le-leb, lt-leb, lt-ltb, le-ltb}
-use lib.Dec.{leb}
-use lib.ListN.{length, get_or, take, drop, set, replicate, length-replicate, drop_of_length-le}
+use borrow.Author.Tests.{eq-eqb, ne_eqb, eqb-true, eqb-false, le-leb, lt-leb, lt-ltb, le-ltb}
+use lib.Dec.{eqb, leb}
+use lib.ListN.{length, get_or, take, set, replicate, length-replicate}
 use lib.Seq.{sets, length-sets, length-take-le, get_or-set_same}
-use Rattle.base.proofs.Lists.{cons_at}
+use Rattle.std.specs.List.{list_any, starts_with}
+use Rattle.base.proofs.Lists.{both, test_iff}
 use Rattle.io.specs.Counts.{IsPrefixLen}
 use Rattle.writing.specs.Put.{Put}
 use Rattle.paths.specs.Paths.{slash, path_limit, no_zero, is_path, last_slash, folder_size, link_start, name_end, name_room, ended_path, Ended, Named, fresh_mark, letter_by, fresh_name}
@@ -21,61 +22,65 @@ pub path_long : (path : List ℕ) → path_limit ≤ length path → false ≡ i
 unfolding is_path
 path_long path h = rw (le-ltb (length path) path_limit h)
 
-module _ (path : List ℕ) (i : ℕ) (e : no_zero (drop i path) ≡ no_zero path) where
-  pub zero_here : length path < path_limit → i < length path → get_or path i 0 ≡ 0 → false ≡ is_path path
-  unfolding is_path no_zero
-  zero_here s h z =
-      let n : false ≡ no_zero path = sym (rw (cons_at path i h, eq-eqb (get_or path i 0) 0 z)) ∙ e in
-      rw (lt-ltb (length path) path_limit s, ← n)
+-- a path of which it is known whether any byte is a 0
+any_zero : (bytes : List ℕ) → not (list_any (λ y. eqb y 0) bytes) ≡ no_zero bytes
+unfolding no_zero
+any_zero [] = refl
+any_zero (b ∷ bytes) = go (eqb b 0) (any_zero bytes)
+  where
+    go : (z : Bool) → not (list_any (λ y. eqb y 0) bytes) ≡ no_zero bytes → not (z || list_any (λ y. eqb y 0) bytes) ≡ cond z false (no_zero bytes)
+    go true e = refl
+    go false e = e
 
-  pub zero_later : i < length path → (get_or path i 0 ≡ 0 → ⊥) → no_zero (drop (i + 1) path) ≡ no_zero path
-  unfolding no_zero
-  zero_later h z = sym (rw (cons_at path i h, ne_eqb (get_or path i 0) 0 z)) ∙ e
-
-  pub zero_nowhere : length path < path_limit → length path ≤ i → true ≡ is_path path
-  unfolding is_path no_zero
-  zero_nowhere s h =
-      let n : true ≡ no_zero path = sym (rw (drop_of_length-le path h)) ∙ e in
-      rw (lt-ltb (length path) path_limit s, ← n)
+pub path_short : (path : List ℕ) → length path < path_limit → {r : Bool} → r ≡ list_any (λ y. eqb y 0) path → not r ≡ is_path path
+unfolding is_path
+path_short path h e = rw (lt-ltb (length path) path_limit h, ← any_zero path) (ap not e)
 
 -- the folder, looked for from the path's end
-pub slash_start : (path : List ℕ) → last_slash path (length path) ≡ folder_size path
+last_at : (path : List ℕ) (n i : ℕ) → i < n → get_or path i 0 ≡ slash → ((k : ℕ) → i < k → k < n → get_or path k 0 ≡ slash → ⊥) → last_slash path n ≡ suc i
+unfolding last_slash
+last_at path zero i h e none = absurd (omega (arith, h))
+last_at path (suc n) i h e none = go (eqb i n) refl (λ w. last_at path n i w e (λ k a b. none k a (omega (arith, b))))
+  where
+    go : (z : Bool) → eqb i n ≡ z → (i < n → last_slash path n ≡ suc i) → cond (eqb (get_or path n 0) slash) (suc n) (last_slash path n) ≡ suc i
+    go true q next =
+        let p : i ≡ n = eqb-true i n q in
+        rw (eq-eqb (get_or path n 0) slash (ap (λ (k : ℕ). get_or path k 0) (sym p) ∙ e)) (ap suc (sym p))
+    go false q next =
+        let w : i < n = omega (arith, h, eqb-false i n q) in
+        rw (ne_eqb (get_or path n 0) slash (none n w (omega arith))) (next w)
+
+last_none : (path : List ℕ) (n : ℕ) → ((k : ℕ) → k < n → get_or path k 0 ≡ slash → ⊥) → last_slash path n ≡ 0
+unfolding last_slash
+last_none path zero none = refl
+last_none path (suc n) none = rw (ne_eqb (get_or path n 0) slash (none n (omega arith))) (last_none path n (λ k h. none k (omega (arith, h))))
+
+pub slash_at : (path : List ℕ) (i : ℕ) → i < length path → get_or path i 0 ≡ slash → ((k : ℕ) → i < k → k < length path → get_or path k 0 ≡ slash → ⊥) → i + 1 ≡ folder_size path
 unfolding folder_size
-slash_start path = refl
+slash_at path i h e none = sym (last_at path (length path) i h e none ∙ omega arith)
 
-before : (path : List ℕ) (n : ℕ) → get_or path (suc n - 1) 0 ≡ get_or path n 0
-before path n = ap (λ (k : ℕ). get_or path k 0) (omega arith)
-
-pub slash_here : (path : List ℕ) (n : ℕ) → 0 < n → get_or path (n - 1) 0 ≡ slash → last_slash path n ≡ folder_size path → n ≡ folder_size path
-unfolding last_slash
-slash_here path zero h e p = p
-slash_here path (suc n) h e p = sym (rw (eq-eqb (get_or path n 0) slash (sym (before path n) ∙ e))) ∙ p
-
-pub slash_before : (path : List ℕ) (n : ℕ) → 0 < n → (get_or path (n - 1) 0 ≡ slash → ⊥) → last_slash path n ≡ folder_size path → last_slash path (n - 1) ≡ folder_size path
-unfolding last_slash
-slash_before path zero h e p = p
-slash_before path (suc n) h e p =
-    let z : suc n - 1 ≡ n = omega arith in rw z (sym (rw (ne_eqb (get_or path n 0) slash (λ q. e (before path n ∙ q)))) ∙ p)
-
-pub slash_nowhere : (path : List ℕ) (n : ℕ) → n ≤ 0 → last_slash path n ≡ folder_size path → 0 ≡ folder_size path
-unfolding last_slash
-slash_nowhere path zero h p = p
-slash_nowhere path (suc n) h p = omega (arith, h)
+pub slash_nowhere : (path : List ℕ) → ((k : ℕ) → k < length path → get_or path k 0 ≡ slash → ⊥) → 0 ≡ folder_size path
+unfolding folder_size
+slash_nowhere path none = sym (last_none path (length path) none)
 
 -- the text of a link that begins with a "/", and of one that doesn't
-module _ (path text : List ℕ) where
-  pub link_alone : get_or text 0 0 ≡ slash → 0 ≡ link_start path text
-  unfolding link_start
-  link_alone e = rw (eq-eqb (get_or text 0 0) slash e)
+begins : (b : ℕ) → (eqb slash b && true) ≡ eqb b slash
+begins b =
+    test_iff (eqb slash b && true) (eqb b slash)
+    (λ e. eq-eqb b slash (sym (eqb-true slash b (both (eqb slash b) true e).0)))
+    (λ e. rw (eq-eqb slash b (sym (eqb-true b slash e))))
 
-  pub link_behind : (get_or text 0 0 ≡ slash → ⊥) → {r : ℕ} → r ≡ folder_size path → r ≡ link_start path text
-  unfolding link_start
-  link_behind e p = p ∙ rw (ne_eqb (get_or text 0 0) slash e)
-
-pub link_empty : (path text : List ℕ) → length text ≡ 0 → {r : ℕ} → r ≡ folder_size path → r ≡ link_start path text
+link_at : (path text : List ℕ) → cond (starts_with eqb text (slash ∷ [])) 0 (folder_size path) ≡ link_start path text
 unfolding link_start
-link_empty path [] h p = p
-link_empty path (b ∷ text) h p = omega (arith, h)
+link_at path [] = refl
+link_at path (b ∷ text) = ap (λ (z : Bool). cond z 0 (folder_size path)) (begins b)
+
+module _ (path text : List ℕ) where
+  pub link_alone : true ≡ starts_with eqb text (slash ∷ []) → 0 ≡ link_start path text
+  link_alone e = ap (λ (z : Bool). cond z 0 (folder_size path)) e ∙ link_at path text
+
+  pub link_behind : false ≡ starts_with eqb text (slash ∷ []) → {r : ℕ} → r ≡ folder_size path → r ≡ link_start path text
+  link_behind e p = p ∙ ap (λ (z : Bool). cond z 0 (folder_size path)) e ∙ link_at path text
 
 -- a name that fits into its room, and one that doesn't
 module _ (at : ℕ) (name room : List ℕ) where

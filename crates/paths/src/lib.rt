@@ -29,14 +29,7 @@ pub fn is_path(path: &[u8]) -> bool
     if path.len() >= PATH_MAX {
         return false;
     }
-    let mut i = 0;
-    while i < path.len() {
-        if path[i] == 0 {
-            return false;
-        }
-        i += 1;
-    }
-    true
+    !path.contains(&0)
 }
 
 // A path as the standard library takes it: all of it, and text. Any other is an error, whose reason is the one that the system has.
@@ -61,24 +54,17 @@ pub fn folder_size(path: &[u8]) -> usize
     ensures value { result ≡ folder_size path.now }
     ensures prefix_len { IsPrefixLen result path.now }
 {
-    let mut n = path.len();
-    while n > 0 {
-        if path[n - 1] == SLASH {
-            return n;
-        }
-        n -= 1;
+    match path.iter().rposition(|b| *b == SLASH) {
+        Some(i) => i + 1,
+        None => 0,
     }
-    0
 }
 
 // Where the text of a link begins in the path that it stands for.
 pub fn link_start(path: &[u8], text: &[u8]) -> usize
     ensures { result ≡ link_start path.now text.now }
 {
-    if text.len() == 0 {
-        return folder_size(path);
-    }
-    if text[0] == SLASH {
+    if text.starts_with(&[SLASH]) {
         return 0;
     }
     folder_size(path)
@@ -122,10 +108,8 @@ pub fn ended(path: &[u8]) -> [u8; PATH_MAX]
 pub fn put_fresh(name: &mut [u8])
     ensures { name.new ≡ fresh_name name.old }
 {
-    let mut i = 0;
-    while i < name.len() {
-        name[i] = b'a' + name[i] % 26;
-        i += 1;
+    for b in name.iter_mut() {
+        *b = b'a' + *b % 26;
     }
     put_name(b".tteolmigu-", name, 0);
 }

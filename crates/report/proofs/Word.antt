@@ -120,7 +120,7 @@ module _ (left right : ℕ) (word customer house table marks : List ℕ) {r : An
     found_fits at n h = rw found_line h
 
     pub found_reports : {at end : ℕ} {room filled : List ℕ} → Put (hyphenated (hyphen ∷ []) after word ++ (line_feed ∷ [])) at room end filled
-        → Reports left right word customer house table marks room at (record { end = end; looks = looks; refused = false }) after filled
+        → Reports left right word customer house table marks room at (record { end = end; summed = looks; refused = false }) after filled
     found_reports p =
         record {
           line = put_as (sym found_line) p;
@@ -137,7 +137,7 @@ module _ (left right : ℕ) (word customer house table marks : List ℕ) {r : An
     refused_fits at n h = rw refused_answer at h
 
     pub refused_reports : {at end : ℕ} {room filled : List ℕ} → Put (refusal_line question g) at room end filled
-        → Reports left right word customer house table marks room at (record { end = end; looks = 0; refused = true }) after filled
+        → Reports left right word customer house table marks room at (record { end = end; summed = 0; refused = true }) after filled
     refused_reports p =
         record {
           line = put_as (rw refused_answer) p;

@@ -6,7 +6,7 @@ use Rattle.base.specs.Limits.{word_limit}
 use Rattle.writing.specs.Put.{Put}
 use Rattle.writing.specs.Writing.{space, question, field, counted, hyphenated}
 use Rattle.words.specs.Symbols.{line_feed, hyphen}
-use Rattle.hyphenation.specs.Calls.{judge_word_alone, room_after, breaks_sheet, word_answer, Answer, found}
+use Rattle.hyphenation.specs.Calls.{judge_word_alone, room_after, breaks_sheet, word_answer, Answer}
 use Rattle.report.specs.declared.Line.{Line}
 
 -- A sign ("?" for a word, "!" for a list or a packing), number and place ("for ground 6 list, then offset"), "0 where none".
@@ -57,6 +57,6 @@ line_for left right word customer house table size = word_line (word_answer left
 -- What is put and returned for a word where margins, lists and table were judged before.
 pub record Reports (left right : ℕ) (word customer house table marks room : List ℕ) (at : ℕ) (r : Line) (marks_after after : List ℕ) : Type 0 where
   pub line : Put (line_for left right word customer house table (length marks)) at room r.end after
-  pub looked : r.looks ≡ looks_of (word_answer left right word customer house table (length marks))
+  pub looked : r.summed ≡ looks_of (word_answer left right word customer house table (length marks))
   pub told : r.refused ≡ is_refused (word_answer left right word customer house table (length marks))
   pub memory : marks_after ≡ room_after (judge_word_alone word (length marks)) (breaks_sheet left right word customer house table) marks

@@ -8,16 +8,16 @@ ghost use Rattle.words.specs.Symbols.{line_feed, hyphen};
 ghost use Rattle.report.specs.Report.{list_field, told_line, refusal_line, sums_line, line_for, Reports};
 
 use base::Ground;
-use hyphenation::Answer;
+use hyphenation::Found;
 
 // Every line of a word fits into this many bytes (specs/Report.antt, line_limit).
 pub const LINE_LIMIT: usize = 2 * base::WORD_LIMIT + 2;
 
-// What came of a word: where its line ends, how many cells were looked at, and whether it was refused.
+// What came of a word: where its line ends, what it adds to the program's sum, and whether it was refused.
 #[derive(Clone, Copy)]
 pub struct Line {
     pub end: usize,
-    pub looks: usize,
+    pub summed: usize,
     pub refused: bool,
 }
 
@@ -97,16 +97,15 @@ pub fn put_word<'a>(
     requires { at + length (line_for left right word.now customer.now house.now table.now (length marks.old)) ≤ length room.old }
     ensures { Reports left right word.now customer.now house.now table.now marks.old room.old at result marks.new room.new }
 {
-    let answer = hyphenation::hyphenate_word(left, right, word, customer, house, table, marks);
-    match answer {
-        Answer::Found { marks: _, looks } => Line {
+    match hyphenation::hyphenate_word(left, right, word, customer, house, table, marks) {
+        Ok(Found { looks, .. }) => Line {
             end: put_line(marks, word, room, at),
-            looks: looks,
+            summed: looks,
             refused: false,
         },
         Err(g) => Line {
             end: put_refusal(writing::QUESTION, g, room, at),
-            looks: 0,
+            summed: 0,
             refused: true,
         },
     }

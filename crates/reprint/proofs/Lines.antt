@@ -7,7 +7,7 @@ use native.Mathlib.Omega.{arith}
 use lib.ListN.{length, drop, length-append}
 use Rattle.base.specs.Limits.{word_limit1980, room_size1980, budget1980}
 use Rattle.base.specs.Grounds.{told, Finds, Refuses, says, Check}
-use Rattle.std.specs.Prelude.{Ok, Err}
+use Rattle.std.specs.Prelude.{Ok, Err, None}
 use Rattle.base.specs.declared.Ground.{Ground}
 use Rattle.base.proofs.Grounds.{Ordered, said_found, said_refused_lem, no_refusal}
 use Rattle.base.proofs.Lists.{clash}
@@ -23,9 +23,7 @@ use Rattle.report.specs.Report.{told_line, refusal_line}
 use Rattle.report.proofs.Word.{told_short}
 use Rattle.machine1980.specs.Run.{Outcome, RanOut, Marked, machine}
 use Rattle.machine1980.specs.Breaks.{break_sheet}
-use Rattle.machine1980.specs.Calls.{grounds1980, answered_found, ran_out_found, said1980, values_of, left_by, answer1980, room1980, Reprints, judge1980}
-use Rattle.machine1980.specs.declared.Answer1980.{Answer1980}
-use Rattle.machine1980.specs.declared.Answer1980.TheVariants as answers
+use Rattle.machine1980.specs.Calls.{grounds1980, answered_found, ran_out_found, said1980, values_of, left_by, answer1980, room1980, Reprints, judge1980, Answer1980, reprint}
 use Rattle.machine1980.proofs.Order.{ordered_1980, sizes}
 use Rattle.reprint.specs.Reprint.{outcome_line, line_limit1980, reprint_line, Reprinted}
 
@@ -88,7 +86,7 @@ out_by n RanOut e = refl
 out_by n (Marked finale marks k) e = clash cc
 
 module _ (word marks : List ℕ) {r : Answer1980} {after : List ℕ} (promise : Reprints budget1980 word marks r after) where
-  module _ {breaks executed : ℕ} (e : r ≡ answers.Found breaks executed) where
+  module _ {breaks executed : ℕ} (e : r ≡ reprint breaks executed) where
     found_said : Finds (answered_found breaks executed) ≡ answer1980 budget1980 word (length marks)
     unfolding said1980
     found_said = ap said1980 (sym e) ∙ promise.answered
@@ -126,7 +124,7 @@ module _ (word marks : List ℕ) {r : Answer1980} {after : List ℕ} (promise : 
     found_fits at n h = rw found_line h
 
     pub found_reprinted : {at end : ℕ} {room filled : List ℕ} → Put (hyphenated (hyphen ∷ []) after word ++ (line_feed ∷ [])) at room end filled
-        → Reprinted word marks room at (record { end = end; executed = executed; refused = false }) after filled
+        → Reprinted word marks room at (record { end = end; summed = executed; refused = false }) after filled
     found_reprinted p =
         record {
           line = put_as (sym found_line) p;
@@ -135,7 +133,7 @@ module _ (word marks : List ℕ) {r : Answer1980} {after : List ℕ} (promise : 
           memory = promise.memory;
         }
 
-  module _ (e : r ≡ answers.RanOut) where
+  module _ (e : r ≡ Ok None) where
     out_said : Finds ran_out_found ≡ answer1980 budget1980 word (length marks)
     unfolding said1980
     out_said = ap said1980 (sym e) ∙ promise.answered
@@ -147,7 +145,7 @@ module _ (word marks : List ℕ) {r : Answer1980} {after : List ℕ} (promise : 
     out_fits at n h = rw (← out_said, out) at h
 
     pub out_reprinted : {at end : ℕ} {room filled : List ℕ} → Put (told_line question 0 0 0) at room end filled
-        → Reprinted word marks room at (record { end = end; executed = 0; refused = true }) after filled
+        → Reprinted word marks room at (record { end = end; summed = 0; refused = true }) after filled
     out_reprinted p =
         record {
           line = put_as (rw (← out_said, out)) p;
@@ -156,7 +154,7 @@ module _ (word marks : List ℕ) {r : Answer1980} {after : List ℕ} (promise : 
           memory = promise.memory;
         }
 
-  module _ {g : Ground} (e : r ≡ answers.Refused g) where
+  module _ {g : Ground} (e : r ≡ Err g) where
     refused_said : Refuses (told g) ≡ answer1980 budget1980 word (length marks)
     unfolding said1980
     refused_said = ap said1980 (sym e) ∙ promise.answered
@@ -165,7 +163,7 @@ module _ (word marks : List ℕ) {r : Answer1980} {after : List ℕ} (promise : 
     refused_fits at n h = rw (← refused_said) at h
 
     pub refused_reprinted : {at end : ℕ} {room filled : List ℕ} → Put (refusal_line question g) at room end filled
-        → Reprinted word marks room at (record { end = end; executed = 0; refused = true }) after filled
+        → Reprinted word marks room at (record { end = end; summed = 0; refused = true }) after filled
     refused_reprinted p =
         record {
           line = put_as (rw (← refused_said)) p;

@@ -9,7 +9,7 @@ use Rattle.report.specs.Report.{told_line}
 use Rattle.machine1980.specs.Run.{Outcome, RanOut, Marked, machine}
 use Rattle.machine1980.specs.Breaks.{break_sheet}
 use Rattle.machine1980.specs.Calls.{answer1980, room1980}
-use Rattle.reprint.specs.declared.Line.{Line}
+use Rattle.report.specs.declared.Line.{Line}
 
 -- The line of a word that isn't refused: the word with its breaks. "Ran out", which no word does (machine1980.proofs.Theorems), is
 -- told as a refusal on no ground.
@@ -55,6 +55,6 @@ reprint_line word size = said_line (answer1980 budget1980 word size) (machine bu
 -- What is put and returned for a word, and what is left in the break room.
 pub record Reprinted (word marks room : List ℕ) (at : ℕ) (r : Line) (marks_after after : List ℕ) : Type 0 where
   pub line : Put (reprint_line word (length marks)) at room r.end after
-  pub executed : r.executed ≡ said_executed (answer1980 budget1980 word (length marks)) (machine budget1980 word)
+  pub executed : r.summed ≡ said_executed (answer1980 budget1980 word (length marks)) (machine budget1980 word)
   pub told : r.refused ≡ said_refused (answer1980 budget1980 word (length marks)) (machine budget1980 word)
   pub memory : marks_after ≡ room1980 budget1980 word marks

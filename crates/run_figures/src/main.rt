@@ -6,27 +6,25 @@
 
 use base::Ground;
 use gauge::{Fitting, Gauge};
-use hyphenation::Answer;
 
 // "Empty list: C 1, E 0, 12 bytes": a table in which no walk finds anything.
 const EMPTY_TABLE: [u8; 12] = [1, 1, 0, 1, 0, 0, 2, 0, 0, 0, 0, 0];
 
+// Each number behind a space.
+fn put_numbers(numbers: &[usize]) {
+    for n in numbers {
+        io::write_all(1, b" ");
+        io::print_decimal(1, *n as u64);
+    }
+}
+
 fn show(sample: &[u8], judged: Result<(), Ground>) {
     io::write_all(1, sample);
-    let mut number = 0;
-    let mut list = 0;
-    let mut place = 0;
-    if let Err(g) = judged {
-        number = base::number_of(g);
-        list = base::list_of(g);
-        place = base::place_of(g);
+    io::write_all(1, b":");
+    match judged {
+        Ok(()) => put_numbers(&[0, 0, 0]),
+        Err(g) => put_numbers(&[base::number_of(g), base::list_of(g), base::place_of(g)]),
     }
-    io::write_all(1, b": ");
-    io::print_decimal(1, number as u64);
-    io::write_all(1, b" ");
-    io::print_decimal(1, list as u64);
-    io::write_all(1, b" ");
-    io::print_decimal(1, place as u64);
     io::write_all(1, b"\n");
 }
 
@@ -53,13 +51,10 @@ fn find<'a>(sample: &[u8], customer: &'a [u8], house: &'a [u8]) {
 }
 
 fn gaps(room: &[u8]) {
-    let mut i = 0;
-    while i < room.len() {
-        if room[i] != 0 {
-            io::write_all(1, b" ");
-            io::print_decimal(1, i as u64);
+    for (i, mark) in room.iter().enumerate() {
+        if *mark != 0 {
+            put_numbers(&[i]);
         }
-        i += 1;
     }
 }
 
@@ -75,39 +70,26 @@ fn breaks<'a>(left: usize, right: usize, sample: &[u8], customer: &'a [u8], hous
         &mut room,
     );
     io::write_all(1, sample);
-    io::write_all(1, b" ");
-    io::print_decimal(1, left as u64);
-    io::write_all(1, b" ");
-    io::print_decimal(1, right as u64);
+    put_numbers(&[left, right]);
     io::write_all(1, b":");
-    if let Answer::Found { marks, looks } = answer {
-        io::write_all(1, b" ");
-        io::print_decimal(1, marks as u64);
-        io::write_all(1, b" ");
-        io::print_decimal(1, looks as u64);
+    if let Ok(found) = answer {
+        put_numbers(&[found.marks, found.looks]);
     }
     gaps(&room);
     io::write_all(1, b"\n");
 }
 
-fn told(first: usize, second: usize) {
-    io::write_all(1, b" ");
-    io::print_decimal(1, first as u64);
-    io::write_all(1, b" ");
-    io::print_decimal(1, second as u64);
-    io::write_all(1, b"\n");
-}
-
 fn show_fitting(fitting: Result<Fitting, Ground>) {
     match fitting {
-        Fitting::Whole => told(gauge::WHOLE_OUTCOME, 0),
-        Fitting::Break(gap) => told(gauge::BREAK_OUTCOME, gap),
-        Fitting::Nowhere => told(gauge::NONE_OUTCOME, 0),
+        Ok(Fitting::Whole) => put_numbers(&[gauge::WHOLE_OUTCOME, 0]),
+        Ok(Fitting::Break(gap)) => put_numbers(&[gauge::BREAK_OUTCOME, gap]),
+        Ok(Fitting::Nowhere) => put_numbers(&[gauge::NONE_OUTCOME, 0]),
         Err(g) => {
             io::write_all(1, b" ?");
-            told(base::number_of(g), base::place_of(g));
+            put_numbers(&[base::number_of(g), base::place_of(g)]);
         }
     }
+    io::write_all(1, b"\n");
 }
 
 // A word of which every gap is a break: "a" has its own width, all other letters another.

@@ -22,13 +22,11 @@ fn check_files(rt: &HostRuntime) {
     let mut table = [0u8; base::PACK_ROOM + 1];
     let first = console::read_argument(rt, b"verify", true, 1, &mut patterns);
     let second = console::read_argument(rt, b"verify", true, 2, &mut table);
-    if !(first.done && second.done) {
+    let (Some(p), Some(t)) = (first, second) else {
         console::print_undone(rt, b"verify", Stream::Output);
         return;
-    }
-    let p = first.size;
-    let t = second.size;
-    print_check(rt, &patterns[0..p], &table[0..t]);
+    };
+    print_check(rt, &patterns[..p], &table[..t]);
 }
 
 fn main(rt: HostRuntime) {

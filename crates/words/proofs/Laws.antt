@@ -18,10 +18,7 @@ use Rattle.base.proofs.Lists.{clash, cons_at, never}
 use Rattle.words.specs.Symbols.{small, capital, letter, lower, digit, symbol_of, symbols_of, dot, apostrophe}
 use Rattle.words.specs.Words.{Rule, letters_alone, starts_letter, is_between, with_apostrophes, all_fit, judge_length, judge_by, judge_word, judge_letters, letter_before, word_byte, word_symbols, row_of}
 
--- a range of bytes, from below and from above
-pub below_range : (lo hi b : ℕ) → b < lo → false ≡ (leb lo b && leb b hi)
-below_range lo hi b h = rw (lt-leb lo b h)
-
+-- a range of bytes, from its lower end on
 pub from_range : (lo hi b : ℕ) → lo ≤ b → leb b hi ≡ (leb lo b && leb b hi)
 from_range lo hi b h = rw (le-leb lo b h)
 
@@ -48,15 +45,7 @@ pub small_high : (b : ℕ) → small b ≡ true → b ≤ 122
 unfolding small
 small_high b e = range_high 97 122 b e
 
--- a letter is small or capital
-pub letter_small : (b : ℕ) → small b ≡ true → true ≡ letter b
-unfolding letter
-letter_small b e = rw e
-
-pub letter_capital : (b : ℕ) → small b ≡ false → capital b ≡ letter b
-unfolding letter
-letter_capital b e = rw e
-
+-- a byte in lower case, by its range
 pub lower_below : (b : ℕ) → b < 65 → b ≡ lower b
 unfolding lower capital
 lower_below b h = rw (lt-leb 65 b h)

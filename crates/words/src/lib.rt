@@ -17,53 +17,40 @@ pub const DOT: u8 = 46;
 
 pub const APOSTROPHE: u8 = 39;
 
+#[tactic(auto, unfolding(crate::specs::Symbols::small))]
 pub fn is_small(b: u8) -> bool
     ensures { result ≡ small b }
 {
-    if b < b'a' {
-        return false;
-    }
-    b <= b'z'
+    b.is_ascii_lowercase()
 }
 
+#[tactic(auto, unfolding(crate::specs::Symbols::capital))]
 pub fn is_capital(b: u8) -> bool
     ensures { result ≡ capital b }
 {
-    if b < b'A' {
-        return false;
-    }
-    b <= b'Z'
+    b.is_ascii_uppercase()
 }
 
+#[tactic(auto, unfolding(crate::specs::Symbols::letter))]
 pub fn is_letter(b: u8) -> bool
     ensures { result ≡ letter b }
 {
-    if is_small(b) {
-        return true;
-    }
-    is_capital(b)
+    is_small(b) || is_capital(b)
 }
 
 // A digit of a pattern, 1 to 9.
+#[tactic(auto, unfolding(crate::specs::Symbols::digit))]
 pub fn is_digit(b: u8) -> bool
     ensures { result ≡ digit b }
 {
-    if b < b'1' {
-        return false;
-    }
-    b <= b'9'
+    matches!(b, b'1'..=b'9')
 }
 
+#[tactic(auto, unfolding(crate::specs::Symbols::lower, crate::specs::Symbols::capital))]
 pub fn lower_of(b: u8) -> u8
     ensures { result ≡ lower b }
 {
-    if b < b'A' {
-        return b;
-    }
-    if b'Z' < b {
-        return b;
-    }
-    b + 32
+    b.to_ascii_lowercase()
 }
 
 // The symbol that a byte of a text stands for, 0 for none.

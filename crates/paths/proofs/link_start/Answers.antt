@@ -1,11 +1,8 @@
-use Rattle.paths.proofs.Laws.{link_alone, link_behind, link_empty}
+use Rattle.paths.proofs.Laws.{link_alone, link_behind}
 use Rattle.paths.proofs.link_start.Goals as goal
 
-pub returns-then-text-eq0 : goal.returns-then-text-eq0
-returns-then-text-eq0 c = link_empty _ _ c.if-text-eq0.true c.folder_size.ensures.value
-
-pub returns-then-text-eq-SLASH : goal.returns-then-text-eq-SLASH
-returns-then-text-eq-SLASH c = link_alone _ _ c.if-text-eq-SLASH.true
+pub returns-then-starts_with : goal.returns-then-starts_with
+returns-then-starts_with c = link_alone _ _ c.if-starts_with.ensures.value
 
 pub returns : goal.returns
-returns c = link_behind _ _ c.if-text-eq-SLASH.false c.folder_size-2.ensures.value
+returns c = link_behind _ _ c.if-starts_with.ensures.value c.folder_size.ensures.value

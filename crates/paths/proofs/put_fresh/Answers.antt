@@ -1,13 +1,11 @@
-use borrow.Author.Rules.{rules}
-use native.Mathlib.Omega.{arith}
 use Rattle.paths.proofs.Laws.{letter_start, letter_turn, letter_end}
 use Rattle.paths.proofs.put_fresh.Goals as goal
 
-pub loop-i-init : goal.loop-i-init
-loop-i-init c = (search rules, search rules, letter_start _)
+pub loop-b-init : goal.loop-b-init
+loop-b-init c = letter_start _
 
-pub loop-i-preserved : goal.loop-i-preserved
-loop-i-preserved c = (search rules, search rules, letter_turn _ _ (omega (arith, c.loop-i-test.true, c.loop-i.invariant.1)) c.loop-i.invariant.2)
+pub loop-b-preserved : goal.loop-b-preserved
+loop-b-preserved c = letter_turn _ _ c.loop-b-test.true c.loop-b.invariant
 
 pub returns : goal.returns
-returns c = letter_end _ _ (omega (arith, c.loop-i-test.false, c.loop-i.invariant.1)) c.loop-i.invariant.2 c.put_name.ensures
+returns c = letter_end _ _ c.loop-b-test.false c.loop-b.invariant c.put_name.ensures

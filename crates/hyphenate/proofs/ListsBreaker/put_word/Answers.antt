@@ -1,0 +1,5 @@
+use Rattle.report.proofs.Word.{line_fits}
+use Rattle.hyphenate.proofs.ListsBreaker.put_word.Goals as goal
+
+pub put_word-requires : goal.put_word-requires
+put_word-requires c = line_fits _ _ _ _ _ _ _ _ _ c.requires.1

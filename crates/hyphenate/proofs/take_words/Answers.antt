@@ -1,5 +1,0 @@
-use Rattle.std.proofs.Common.{refl}
-use Rattle.hyphenate.proofs.take_words.Goals as goal
-
-pub loop-turns-init : goal.loop-turns-init
-loop-turns-init c = (refl, refl, refl, c.requires)

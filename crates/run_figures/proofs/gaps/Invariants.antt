@@ -1,9 +1,0 @@
--- The byte in hand lies in the room or right behind it; the bytes left fall.
-use Rattle.std.proofs.Common.{length, ◌-◌, ◌≤◌}
-use Rattle.run_figures.proofs.gaps.Given as goal
-
-abbrev pub invariant-loop-i : goal.invariant-loop-i
-invariant-loop-i l = l.i ≤ length l.room
-
-abbrev pub decreases-loop-i : goal.decreases-loop-i
-decreases-loop-i l = length l.room - l.i
