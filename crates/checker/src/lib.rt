@@ -23,8 +23,7 @@ fn are_kinds(bytes: &[u8], size: usize, kind: u8, count: u16) -> bool
     ensures { result ≡ kinds_from size kind bytes.now 0 count }
 {
     let mut at: usize = 0;
-    let mut n: u16 = 0;
-    while n < count {
+    for _n in 0..count {
         if bytes.len() <= at {
             return false;
         }
@@ -32,7 +31,6 @@ fn are_kinds(bytes: &[u8], size: usize, kind: u8, count: u16) -> bool
             return false;
         }
         at += size;
-        n += 1;
     }
     true
 }
@@ -52,11 +50,13 @@ fn is_sound(entries: &&[u8], k: u16, m: usize) -> bool
     if k == 0 {
         return true;
     }
-    let Some(Entry {
-        distance,
-        level,
-        next,
-    }) = table::entry_at(*entries, k)
+    let Some(
+        Entry {
+            distance,
+            level,
+            next,
+        },
+    ) = table::entry_at(*entries, k)
     else {
         return false;
     };
@@ -82,21 +82,19 @@ fn are_levels(line: &[u8], room: &[u8; base::ROOM_SIZE]) -> bool
 {
     let mut gap: usize = 0;
     let mut level: u8 = 0;
-    let mut i = 0;
-    while i < line.len() {
-        let b = line[i];
-        i += 1;
-        if words::is_digit(b) {
-            level = patterns::digit_value(b);
-        } else {
-            if words::symbol_of(b) != 0 {
-                gap += 1;
-                if room[gap] != level {
-                    return false;
-                }
-                level = 0;
-            }
+    for b in line {
+        if words::is_digit(*b) {
+            level = patterns::digit_value(*b);
+            continue;
         }
+        if words::symbol_of(*b) == 0 {
+            continue;
+        }
+        gap += 1;
+        if room[gap] != level {
+            return false;
+        }
+        level = 0;
     }
     room[gap + 1] == level
 }
@@ -121,12 +119,10 @@ fn is_none_between(cells: &[u8], node: Node, low: u8, high: u8) -> bool
     if node.leaf {
         return true;
     }
-    let mut symbol = low as u16 + 1;
-    while symbol < high as u16 {
+    for symbol in low as u16 + 1..high as u16 {
         if table::look_at(cells, node.base, symbol as u8).is_some() {
             return false; // a path that the list hasn't
         }
-        symbol += 1;
     }
     true // nothing matches
 }

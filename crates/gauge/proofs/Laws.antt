@@ -1,19 +1,18 @@
 -- Laws about widths, sums and what fits, one for each way through the code.
 use Prim.Native.Nat.{ℕ, zero, suc, ◌+◌, ◌-◌, ◌≤◌, ◌<◌}
-use mathlib.Core.Bool.{Bool, true, false, cond, not, ◌&&◌}
+use mathlib.Core.Bool.{Bool, true, false, cond, not, ◌&&◌, or-true}
 use mathlib.Core.List.{List, [], ◌∷◌}
 use mathlib.Core.Path.{◌≡◌, refl, sym, ◌∙◌, ap, subst}
 use native.Mathlib.Omega.{arith}
 use native.Mathlib.Numerals.{add-one}
 use borrow.Author.Tests.{eq-eqb, ne_eqb, lt-ltb, le-ltb, ltb-false}
 use lib.Dec.{eqb, ltb, T}
-use lib.ListN.{length, get_or, drop, drop_of_length-le}
-use lib.Seq.{drop-cons}
+use lib.ListN.{length, get_or}
 use lib.Ieee.{Float, nan, inf, fin, binary64, add, lt, ne, is_nan}
 use lib.Ieee.Compare.{differs_from_itself, nan_differs}
 use Rattle.base.specs.Limits.{room_size, word_limit, width_count, letter_limit, apostrophe_symbol}
 use Rattle.base.specs.Grounds.{Finds, refuse_if, Check}
-use Rattle.std.specs.Prelude.{Ok, Err}
+use Rattle.std.specs.Prelude.{Ok, Err, EachIndex}
 use Rattle.base.specs.declared.Ground.{Ground}
 use Rattle.base.specs.declared.Ground.TheVariants.{RoomShort, BadWidth}
 use Rattle.base.proofs.Grounds.{both_fine, not_refused}
@@ -51,21 +50,25 @@ pub width_number : (x : Float) → lt x zero_width ≡ false → lt width_limit 
 unfolding bad_width
 width_number x e f = differs x ∙ rw (e, f)
 
--- some widths, one after the other
-width_at : (w : List Float) (i : ℕ) → i < length w → drop i w ≡ get_or w i nan ∷ drop (i + 1) w
-width_at w i h = rw (add-one, drop-cons w i nan)
-
-pub any_stop : (w : List Float) (i : ℕ) → i < length w → bad_width (get_or w i nan) ≡ true → any_bad (drop i w) ≡ true
+-- is one of some widths bad?
+any_true : (w : List Float) (k : ℕ) → k < length w → bad_width (get_or w k nan) ≡ true → any_bad w ≡ true
 unfolding any_bad
-any_stop w i h e = rw (width_at w i h, e)
+any_true [] k h e = absurd (omega (arith, h))
+any_true (x ∷ w) zero h e = rw e
+any_true (x ∷ w) (suc k) h e = rw (any_true w k (omega (arith, h)) e) (or-true (bad_width x))
 
-pub any_pass : (w : List Float) (i : ℕ) → i < length w → bad_width (get_or w i nan) ≡ false → any_bad (drop i w) ≡ any_bad (drop (i + 1) w)
+any_false : (w : List Float) → EachIndex w (λ k. bad_width (get_or w k nan) ≡ false) → any_bad w ≡ false
 unfolding any_bad
-any_pass w i h e = rw (width_at w i h, e)
+any_false [] e = refl
+any_false (x ∷ w) e = rw (e 0 (omega arith)) (any_false w (λ k h. e (suc k) (omega (arith, h))))
 
-pub any_end : (w : List Float) (i : ℕ) → length w ≤ i → any_bad (drop i w) ≡ false
-unfolding any_bad
-any_end w i h = rw (drop_of_length-le w h)
+pub any_by : (w : List Float) (r : Bool) → (r ≡ true → (k : ℕ) × (k < length w) × (bad_width (get_or w k nan) ≡ true))
+    → (r ≡ false → EachIndex w (λ k. bad_width (get_or w k nan) ≡ false)) → r ≡ any_bad w
+any_by w r found none = go r refl
+  where
+    go : (z : Bool) → r ≡ z → r ≡ any_bad w
+    go true p = let h = found p in p ∙ sym (any_true w h.0 h.1 h.2)
+    go false p = p ∙ sym (any_false w (none p))
 
 -- all widths of a call: the hyphen's, the line's, then the letters'
 module _ (g : Gauge) (widths : List Float) {y : Bool} (p : y ≡ bad_width g.hyphen) where

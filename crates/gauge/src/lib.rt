@@ -53,14 +53,7 @@ fn is_bad_width(width: f64) -> bool
 fn any_bad(widths: &[f64]) -> bool
     ensures { result ≡ any_bad widths.now }
 {
-    let mut i = 0;
-    while i < widths.len() {
-        if is_bad_width(widths[i]) {
-            return true;
-        }
-        i += 1;
-    }
-    false
+    widths.iter().any(|w| is_bad_width(*w))
 }
 
 // Is one of all given widths bad?
@@ -77,7 +70,12 @@ fn are_bad_widths(gauge: Gauge, widths: &[f64]) -> bool
 }
 
 // The grounds of the call for a room of this size: 5, 2, 4, 3, 13.
-pub fn judge_fit(gauge: Gauge, widths: &[f64; base::WIDTH_COUNT], word: &[u8], size: usize) -> Result<(), Ground>
+pub fn judge_fit(
+    gauge: Gauge,
+    widths: &[f64; base::WIDTH_COUNT],
+    word: &[u8],
+    size: usize,
+) -> Result<(), Ground>
     ensures { says result ≡ first_of (Finds []) (fit_grounds gauge widths.now word.now size) }
 {
     if size < base::ROOM_SIZE {
@@ -131,14 +129,11 @@ fn find_fit(gauge: Gauge, widths: &[f64], word: &[u8], room: &[u8]) -> Fitting
     let last = word.len() - 1;
     let mut width = ZERO_WIDTH;
     let mut found: usize = 0;
-    let mut i: usize = 0;
-    while i < last {
-        let at = i;
-        i += 1;
-        width = width + letter_width(widths, word[at]);
-        found = last_break(room[i], fits_in(line, width + hyphen), i, found);
+    for i in 0..last {
+        width = width + letter_width(widths, word[i]);
+        found = last_break(room[i + 1], fits_in(line, width + hyphen), i + 1, found);
     }
-    if fits_in(line, width + letter_width(widths, word[i])) {
+    if fits_in(line, width + letter_width(widths, word[last])) {
         return Fitting::Whole;
     }
     if found == 0 {

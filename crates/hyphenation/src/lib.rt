@@ -112,18 +112,16 @@ fn mark_line(left: usize, right: usize, n: usize, line: &[u8], room: &mut [u8])
     ensures { room.new ≡ mark_hyphens (in_margins left right n) 0 line.now room.old }
 {
     let mut gap: usize = 0;
-    let mut i = 0;
-    while i < line.len() {
-        let b = line[i];
-        i += 1;
-        if b != words::HYPHEN {
+    for b in line {
+        if *b != words::HYPHEN {
             gap += 1;
-        } else {
-            if gap < base::ROOM_SIZE {
-                if is_inside(left, right, n, gap) {
-                    room[gap] = 1;
-                }
-            }
+            continue;
+        }
+        if base::ROOM_SIZE <= gap {
+            continue;
+        }
+        if is_inside(left, right, n, gap) {
+            room[gap] = 1;
         }
     }
 }
@@ -138,10 +136,8 @@ fn put_breaks(left: usize, right: usize, n: usize, levels: &[u8; base::ROOM_SIZE
         return;
     }
     let last = n - right;
-    let mut i = left;
-    while i <= last {
+    for i in left..last + 1 {
         room[i] = levels[i] % 2;
-        i += 1;
     }
 }
 

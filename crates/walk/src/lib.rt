@@ -74,11 +74,13 @@ fn apply_chain(
     requires { (m ≤ end) × (n ≤ room_size) }
     ensures { room.new ≡ raise_all n (chain entries.now.now m end k) room.old }
 {
-    if let Some(Entry {
-        distance,
-        level,
-        next,
-    }) = table::entry_at(*entries, k)
+    if let Some(
+        Entry {
+            distance,
+            level,
+            next,
+        },
+    ) = table::entry_at(*entries, k)
     {
         apply_entry(room, n, m, end, distance, level);
         if next < k {
@@ -100,8 +102,7 @@ fn walk_row(
     ensures { Walked cells.now entries.now.now root n row.now room.old result room.new }
 {
     let mut looks: usize = 0;
-    let mut place: usize = 0;
-    while place < row.len() {
+    for place in 0..row.len() {
         let mut base = root;
         let mut m: usize = 0;
         let mut end = place;
@@ -125,7 +126,6 @@ fn walk_row(
             base = link;
         };
         looks += walked;
-        place += 1;
     }
     looks
 }
@@ -136,12 +136,10 @@ fn fill_row(word: &[u8], row: &mut [u8])
     ensures { take (length word.now + 2) row.new ≡ row_of word.now }
 {
     row[0] = base::EDGE;
-    let mut i = 0;
-    while i < word.len() {
-        row[i + 1] = words::word_symbol(word[i]);
-        i += 1;
+    for (i, b) in word.iter().enumerate() {
+        row[i + 1] = words::word_symbol(*b);
     }
-    row[i + 1] = base::EDGE;
+    row[word.len() + 1] = base::EDGE;
 }
 
 // The walks over a judged word, from the root base: its levels, whatever the room held, and the count of looks. They are raised in an

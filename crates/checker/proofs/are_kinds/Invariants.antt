@@ -1,4 +1,4 @@
--- The records before n have the kind, and the next one stands at `at`; count less n falls.
+-- The records before n have the kind, and the next one stands at `at`.
 use Prim.Native.Nat.{◌≤◌, ◌+◌, ◌-◌}
 use mathlib.Core.Path.{◌≡◌}
 use lib.ListN.{length}
@@ -6,7 +6,4 @@ use Rattle.rightness.specs.Test.{kinds_from}
 use Rattle.checker.proofs.are_kinds.Given as goal
 
 abbrev pub invariant-loop-n : goal.invariant-loop-n
-invariant-loop-n l = (l.n ≤ l.count) × (l.at ≤ length l.bytes + l.size) × (kinds_from l.size l.kind l.bytes 0 l.count ≡ kinds_from l.size l.kind l.bytes l.at (l.count - l.n))
-
-abbrev pub decreases-loop-n : goal.decreases-loop-n
-decreases-loop-n l = l.count - l.n
+invariant-loop-n l = (l.at ≤ length l.bytes + l.size) × (kinds_from l.size l.kind l.bytes 0 l.count ≡ kinds_from l.size l.kind l.bytes l.at (l.count - l._n))

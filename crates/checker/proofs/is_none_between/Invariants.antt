@@ -1,4 +1,4 @@
--- The table goes on with no symbol from low up to `symbol`; high less symbol falls.
+-- The table goes on with no symbol from low up to `symbol`.
 use Prim.Native.Nat.{◌-◌}
 use mathlib.Core.Path.{◌≡◌}
 use Rattle.base.specs.Tests.{all_from}
@@ -8,6 +8,3 @@ use Rattle.checker.proofs.is_none_between.Given as goal
 
 abbrev pub invariant-loop-symbol : goal.invariant-loop-symbol
 invariant-loop-symbol l = none_between l.cells l.node l.low l.high ≡ all_from (free l.cells l.node) l.symbol (l.high - l.symbol)
-
-abbrev pub decreases-loop-symbol : goal.decreases-loop-symbol
-decreases-loop-symbol l = l.high - l.symbol

@@ -1,4 +1,7 @@
 use borrow.Author.Rules.{rules}
+use Prim.Native.Nat.{◌-◌}
+use mathlib.Core.Path.{◌≡◌}
+use lib.ListN.{length}
 use native.Mathlib.Omega.{arith}
 use lib.Ieee.{of_bits}
 use Rattle.gauge.proofs.Laws.{some_letter, letter_at, measured_letter, gap_at, all_letters, measured_none, measured_more, found_whole, found_none, found_break}
@@ -28,27 +31,30 @@ pub bounds-word-i : goal.bounds-word-i
 bounds-word-i c =
     letter_at c.args.widths.now c.args.word.now c.args.room.now c.requires _ c.loop-i.invariant.0
 
+pub bounds-word-last : goal.bounds-word-last
+bounds-word-last c = letter_at c.args.widths.now c.args.word.now c.args.room.now c.requires _ (omega arith)
+
 pub letter_width-requires : goal.letter_width-requires
 letter_width-requires c =
-    measured_letter c.args.widths.now c.args.word.now c.args.room.now c.requires _ c.loop-i.invariant.0
+    measured_letter c.args.widths.now c.args.word.now c.args.room.now c.requires _ (omega arith)
 
 pub returns-then-fits_in : goal.returns-then-fits_in
 returns-then-fits_in c =
-    let l = c.loop-i in
-    found_whole _ _ _ _ l.invariant.1 c.letter_width.ensures
-    (all_letters c.args.widths.now c.args.word.now c.args.room.now c.requires _ l.invariant.0 c.loop-i-test.false)
+    let e : c.loop-i.i ≡ length c.args.word.now - 1 = omega arith in
+    found_whole _ _ _ _ (rw e at c.loop-i.invariant.1) c.letter_width.ensures
+    (all_letters c.args.widths.now c.args.word.now c.args.room.now c.requires _ (omega arith) (omega arith))
     c.fits_in-2.ensures c.if-fits_in.true
 
 pub returns-then-found-eq0 : goal.returns-then-found-eq0
 returns-then-found-eq0 c =
-    let l = c.loop-i in
-    found_none _ _ _ _ l.invariant.1 c.letter_width.ensures
-    (all_letters c.args.widths.now c.args.word.now c.args.room.now c.requires _ l.invariant.0 c.loop-i-test.false)
+    let e : c.loop-i.i ≡ length c.args.word.now - 1 = omega arith in
+    found_none _ _ _ _ (rw e at c.loop-i.invariant.1) c.letter_width.ensures
+    (all_letters c.args.widths.now c.args.word.now c.args.room.now c.requires _ (omega arith) (omega arith))
     c.fits_in-2.ensures c.if-fits_in.false c.if-found-eq0.true
 
 pub returns : goal.returns
 returns c =
-    let l = c.loop-i in
-    found_break _ _ _ _ l.invariant.1 c.letter_width.ensures
-    (all_letters c.args.widths.now c.args.word.now c.args.room.now c.requires _ l.invariant.0 c.loop-i-test.false)
+    let e : c.loop-i.i ≡ length c.args.word.now - 1 = omega arith in
+    found_break _ _ _ _ (rw e at c.loop-i.invariant.1) c.letter_width.ensures
+    (all_letters c.args.widths.now c.args.word.now c.args.room.now c.requires _ (omega arith) (omega arith))
     c.fits_in-2.ensures c.if-fits_in.false c.if-found-eq0.false

@@ -1,5 +1,5 @@
--- The breaks below gap i are in the cleared room; the gaps up to the last that the right margin leaves, less i, fall.
-use Prim.Native.Nat.{◌+◌, ◌-◌, ◌≤◌}
+-- The breaks below gap i are in the cleared room.
+use Prim.Native.Nat.{◌≤◌}
 use mathlib.Core.Path.{◌≡◌}
 use lib.ListN.{length}
 use Rattle.base.specs.Limits.{room_size}
@@ -9,6 +9,3 @@ use Rattle.hyphenation.proofs.put_breaks.Given as goal
 
 abbrev pub invariant-loop-i : goal.invariant-loop-i
 invariant-loop-i l = (l.left ≤ l.i) × (length l.room ≡ length l.initial.room) × (room_size ≤ length l.initial.room) × (l.room ≡ written room_size (sheet room_size (below l.left l.right l.n l.levels l.i)) l.initial.room)
-
-abbrev pub decreases-loop-i : goal.decreases-loop-i
-decreases-loop-i l = l.last + 1 - l.i

@@ -1,4 +1,4 @@
--- Outer: the settings of the places before this one are raised and their looks counted; the places left fall. Inner: m symbols have
+-- Outer: the settings of the places before this one are raised and their looks counted. Inner: m symbols have
 -- matched from this place, and what they set is raised; what is left of the row falls.
 use Prim.Native.Nat.{◌-◌}
 use lib.ListN.{length}
@@ -13,6 +13,3 @@ decreases-walk l = length l.row - l.end
 
 abbrev pub invariant-loop-place : goal.invariant-loop-place
 invariant-loop-place l = law.Going l.cells l.entries.now l.root l.n l.row l.initial.room l.place l.looks l.room
-
-abbrev pub decreases-loop-place : goal.decreases-loop-place
-decreases-loop-place l = length l.row - l.place
