@@ -6,7 +6,7 @@ use Rattle.base.specs.Limits.{word_limit}
 use Rattle.writing.specs.Put.{Put}
 use Rattle.writing.specs.Writing.{space, question, field, counted, hyphenated}
 use Rattle.words.specs.Symbols.{line_feed, hyphen}
-use Rattle.hyphenation.specs.Calls.{judge_word_alone, room_after, breaks_sheet, word_answer, Answer, found}
+use Rattle.hyphenation.specs.Calls.{judge_word_alone, room_after, breaks_sheet, word_answer, Answer}
 use Rattle.report.specs.declared.Line.{Line}
 
 -- A sign ("?" for a word, "!" for a list or a packing), number and place ("for ground 6 list, then offset"), "0 where none".

@@ -7,7 +7,7 @@ use native.Mathlib.Omega.{arith}
 use lib.ListN.{length, drop, length-append}
 use Rattle.base.specs.Limits.{word_limit1980, room_size1980, budget1980}
 use Rattle.base.specs.Grounds.{told, Finds, Refuses, says, Check}
-use Rattle.std.specs.Prelude.{Ok, Err, Some, None}
+use Rattle.std.specs.Prelude.{Ok, Err, None}
 use Rattle.base.specs.declared.Ground.{Ground}
 use Rattle.base.proofs.Grounds.{Ordered, said_found, said_refused_lem, no_refusal}
 use Rattle.base.proofs.Lists.{clash}

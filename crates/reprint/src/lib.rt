@@ -16,10 +16,14 @@ pub fn put_reprint(word: &[u8], marks: &mut [u8], room: &mut [u8], at: usize) ->
     ensures { Reprinted word.now marks.old room.old at result marks.new room.new }
 {
     match machine1980::hyphenate_1980(word, marks) {
-        Ok(Some(Reprint {
-            breaks: _,
-            executed,
-        })) => Line {
+        Ok(
+            Some(
+                Reprint {
+                    breaks: _,
+                    executed,
+                },
+            ),
+        ) => Line {
             end: report::put_line(marks, word, room, at),
             summed: executed,
             refused: false,
