@@ -5,7 +5,7 @@ use mathlib.Core.List.{List}
 use mathlib.Core.Path.{◌≡◌, ◌∙◌}
 use lib.ListN.{length, get_or, drop}
 use Rattle.base.specs.Limits.{pattern_limit, room_size, word_limit}
-use Rattle.std.specs.Prelude.{Ok, Err}
+use Rattle.std.specs.Prelude.{Ok}
 use Rattle.base.proofs.Grounds.{both_fine}
 use Rattle.rooms.specs.Rooms.{written}
 use Rattle.words.specs.Words.{judge_word, row_of, inner}

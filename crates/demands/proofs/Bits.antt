@@ -35,7 +35,7 @@ use Rattle.table.specs.Table.{root_base, head_size, head_kind, edition, cell_siz
 use Rattle.rightness.specs.Test.{right_for, judge_check}
 use Rattle.hyphenation.specs.Levels.{level_sheet, word_looks}
 use Rattle.hyphenation.specs.Breaks.{break_sheet}
-use Rattle.hyphenation.specs.Calls.{judge_room, judge_margins, judge_levels, judge_hyphenate, answer, levels_answer, breaks_sheet, breaks_looks, breaks_answer, Answer, found}
+use Rattle.hyphenation.specs.Calls.{judge_room, judge_margins, judge_levels, judge_hyphenate, answer, levels_answer, breaks_sheet, breaks_looks, breaks_answer, Answer}
 use Rattle.words.proofs.Laws.{word_fits, letters_fit}
 use Rattle.hyphenation.proofs.Calls.{levels_sizes, breaks_sizes}
 use Rattle.hyphenation.proofs.Theorems.{word_few, breaks_few}
@@ -56,7 +56,7 @@ use Rattle.states.specs.Bytes.{state_size, of_bytes}
 use Rattle.states.proofs.Theorems.{read_left_state}
 use Rattle.states.proofs.Bytes.{bytes_wide}
 use Rattle.flowing.specs.Output.{piece_text, piece_looks, end_text, end_looks}
-use Rattle.running.specs.Calls.{passes_end, short_for, judge_setting, judge_piece, judge_end, held_now, total_now, text_answer, judged_piece, piece_answer, judged_end, end_answer, TextAnswer, written}
+use Rattle.running.specs.Calls.{passes_end, short_for, judge_setting, judge_piece, judge_end, held_now, total_now, text_answer, judged_piece, piece_answer, judged_end, end_answer, TextAnswer}
 use Rattle.running.proofs.Theorems.{answered_short}
 use Rattle.running.proofs.Sizes.{piece_fits, end_fits, piece_count, end_count}
 use Rattle.packer.specs.Pack.{Packing, judge_pack, packing, pack_answer}

@@ -10,7 +10,7 @@ use borrow.Author.Tests.{leb-true}
 use lib.Dec.{leb}
 use lib.ListN.{length, get_or, take}
 use Rattle.base.specs.Limits.{room_size, word_limit}
-use Rattle.std.specs.Prelude.{Ok, Err, Option, Some, None}
+use Rattle.std.specs.Prelude.{Ok, Option, Some, None}
 use Rattle.base.proofs.Grounds.{both_fine}
 use Rattle.base.proofs.Lists.{clash, never, both}
 use Rattle.rooms.specs.Rooms.{written, nonzero, bit}
@@ -101,14 +101,14 @@ finds left right word customer house table room after marks looks b =
     record { judged = f.judged_fine; sheet = a.memory ∙ rw f.judged_fine; number = f.marks_are; count = f.looks_are }
 
 module _ (left right : ℕ) (word customer house table room after : List ℕ) (marks looks : ℕ) (b : Breaks left right word customer house table room (found marks looks) after) where
-  found : Finds left right word customer house table room after marks looks
-  found = finds left right word customer house table room after marks looks b
+  finding_of : Finds left right word customer house table room after marks looks
+  finding_of = finds left right word customer house table room after marks looks b
 
   -- a finding's word and lists are good
   pub judged_parts : (judge_word word_limit word ≡ Ok tt) × (judge_lists customer house ≡ Ok tt)
   unfolding judge_hyphenate
   judged_parts =
-      let a = both_fine (judge_margins left right) _ found.judged in
+      let a = both_fine (judge_margins left right) _ finding_of.judged in
       let c = both_fine (judge_room (length room)) _ a.1 in
       let d = both_fine (judge_word word_limit word) _ c.1 in
       (d.0, (both_fine (judge_lists customer house) (judge_table table) d.1).0)
@@ -116,13 +116,13 @@ module _ (left right : ℕ) (word customer house table room after : List ℕ) (m
   -- "Over any table, a finding of either call carries the count of document 01's walk"
   pub count_unlisted : (Listed word customer → ⊥) → (Listed word house → ⊥) → looks ≡ word_looks (cells_of table) root_base word
   unfolding break_looks find_either
-  count_unlisted n m = found.count ∙ rw (find_unlisted word customer n, find_unlisted word house m)
+  count_unlisted n m = finding_of.count ∙ rw (find_unlisted word customer n, find_unlisted word house m)
 
   -- "but 0 from the hyphenating call where an exception line decides"
   pub count_listed : Listed word customer ⊎ Listed word house → looks ≡ 0
   unfolding break_looks find_either
-  count_listed (inl l) = found.count ∙ rw (find_listed word customer (lists_good customer house judged_parts.1).0 l)
-  count_listed (inr l) = found.count ∙ none (find word customer) (find word house) (word_looks (cells_of table) root_base word) (find_listed word house (lists_good customer house judged_parts.1).1 l)
+  count_listed (inl l) = finding_of.count ∙ rw (find_listed word customer (lists_good customer house judged_parts.1).0 l)
+  count_listed (inr l) = finding_of.count ∙ none (find word customer) (find word house) (word_looks (cells_of table) root_base word) (find_listed word house (lists_good customer house judged_parts.1).1 l)
     where
       none : (f g : Option Span) (n : ℕ) {start end : ℕ} → g ≡ span start end → unless_listed (own_first f g) n ≡ 0
       none (Some line) g n p = refl
@@ -131,12 +131,12 @@ module _ (left right : ℕ) (word customer house table room after : List ℕ) (m
   -- "byte i of the room is 1 if gap i is a break, the other bytes up to 63 are 0", over any table
   pub byte_is : (i : ℕ) → i < room_size → get_or after i 0 ≡ bit (is_break left right customer house (level_at (cells_of table) (entries_of table) root_base word) word i)
   unfolding break_sheet
-  byte_is i k = rw found.sheet (written_low room_size _ room i k)
+  byte_is i k = rw finding_of.sheet (written_low room_size _ room i k)
 
   -- "the number of breaks"
   number_is : marks ≡ nonzero (take room_size after)
   unfolding break_sheet
-  number_is = found.number ∙ ap nonzero (sym (ap (take room_size) found.sheet ∙ written_take room_size _ room))
+  number_is = finding_of.number ∙ ap nonzero (sym (ap (take room_size) finding_of.sheet ∙ written_take room_size _ room))
 
   -- CR 1: where a line decides, byte i of the room is 1 exactly where a hyphen of that line stands after i letters with the left
   -- margin's letters before it and the right margin's behind it, over any table. The line decides even where none of its hyphens counts.
@@ -174,7 +174,7 @@ module _ (left right : ℕ) (word customer house table room after : List ℕ) (m
     -- "byte i of the room is 1 if gap i is a break, the other bytes up to 63 are 0"
     pub breaks_are : (i : ℕ) → i < room_size → get_or after i 0 ≡ bit (is_break left right customer house (liang (patterns_of text) word) word i)
     breaks_are i k =
-        rw found.sheet (over.breaks_written (patterns_of text) (cells_of table) (entries_of table) root_base (accepted_paths text table accepted)
+        rw finding_of.sheet (over.breaks_written (patterns_of text) (cells_of table) (entries_of table) root_base (accepted_paths text table accepted)
         word judged_parts.0 (patterns_shaped text table accepted) left right customer house room i k)
 
     -- "the customer's exception line decides"

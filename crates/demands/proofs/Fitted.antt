@@ -1,11 +1,12 @@
 -- First fit is right: a table that it packs is well formed and right for its list.
+use Rattle.table.proofs.Laws.{outputs_once}
 use Prim.Native.Nat.{ℕ, suc, ◌+◌, ◌*◌, ◌≤◌, ◌<◌}
 use mathlib.Core.List.{List}
 use mathlib.Core.Path.{◌≡◌, sym, ◌∙◌, ap, subst}
 use native.Mathlib.Omega.{arith}
 use lib.ListN.{length, get_or, take}
 use Rattle.base.specs.Limits.{pattern_limit, level_limit, cell_limit}
-use Rattle.std.specs.Prelude.{Ok, Err}
+use Rattle.std.specs.Prelude.{Ok}
 use Rattle.base.proofs.Lists.{clash}
 use Rattle.liang.specs.Patterns.{Pattern}
 use Rattle.table.specs.Table.{root_base, cell_size, cell_room, entry_size, judge_table, cells_of, entries_of, hit}
@@ -86,7 +87,7 @@ module _ (patterns : List Pattern) (sorted : Sorted patterns) (shaped : (i : ℕ
       exact i h link output a =
           let b = pattern_behind patterns sorted shaped low site nodes bytes taken placed i h in
           let w = along_behind (nth patterns i).symbols b in
-          let o : output_in after (cell_behind nodes (nth patterns i).symbols b) ≡ output = cc in
+          let o : output_in after (cell_behind nodes (nth patterns i).symbols b) ≡ output = outputs_once (sym w ∙ a) in
           let r = runs_kept (nth patterns i).levels (length (nth patterns i).symbols) entry_part e (part_kept made e issued.entered) (issued.within i h b) (issued.exact i h b) in
           let x = runs_exact (nth patterns i).levels (length (nth patterns i).symbols) (subst (λ (k : ℕ). Runs entry_part (nth patterns i).levels (length (nth patterns i).symbols) (suc (length (nth patterns i).symbols)) k) o r) in
           record { faultless = x.0; levels = x.1 }
@@ -97,7 +98,7 @@ module _ (patterns : List Pattern) (sorted : Sorted patterns) (shaped : (i : ℕ
           let b = path_behind u p in
           let w = along_behind u b in
           let m = p.matches in
-          let o : p.output ≡ output_in after (cell_behind nodes u b) = cc in
+          let o : p.output ≡ output_in after (cell_behind nodes u b) = outputs_once (sym m ∙ w) in
           o
           ∙ issued.others (cell_behind nodes u b)
           (λ i h a q. other i h (one_string site nodes placed.laid.tree bytes placed.laid.owned (nth patterns i).symbols u a b (sym q)))

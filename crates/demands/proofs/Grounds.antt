@@ -24,8 +24,7 @@ use Rattle.table.specs.Table.{table_grounds}
 use Rattle.rightness.specs.Test.{check_grounds}
 use Rattle.fit.specs.Table.{first_fit}
 use Rattle.hyphenation.specs.Calls.{room_grounds, margin_grounds, levels_grounds, hyphenate_grounds, answer_said, room_left, Answers, Levels, Breaks, Answer}
-use Rattle.packer.specs.Pack.{pack_grounds, fit_bytes, packing_said, pack_said, pack_left, Packs}
-use Rattle.packer.specs.declared.Packing.{Packing}
+use Rattle.packer.specs.Pack.{pack_grounds, fit_bytes, packing_said, pack_said, pack_left, Packs, Packing}
 use Rattle.gauge.specs.Fit.{fit_grounds, fit_said, fit_answer}
 use Rattle.gauge.specs.declared.Gauge.{Gauge}
 use Rattle.base.specs.declared.Ground.{Ground}

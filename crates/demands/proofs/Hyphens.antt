@@ -9,7 +9,7 @@ use native.Mathlib.Omega.{arith}
 use borrow.Author.Tests.{le-leb, leb-true, eqb-true}
 use lib.Dec.{leb, eqb}
 use lib.ListN.{length, get_or, take, drop}
-use Rattle.std.specs.Prelude.{Ok, Err}
+use Rattle.std.specs.Prelude.{Ok}
 use Rattle.base.proofs.Lists.{clash, never, both, test_iff}
 use Rattle.words.specs.Symbols.{line_feed, hyphen, small, symbol_of, symbols_of}
 use Rattle.words.proofs.Laws.{symbols_skip, symbols_keep, symbols_length}

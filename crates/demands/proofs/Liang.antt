@@ -10,7 +10,7 @@ use borrow.Author.Tests.{le-leb, eqb-true, eqb-false}
 use lib.Dec.{leb, eqb}
 use lib.ListN.{length, get_or, drop, length-drop}
 use Rattle.base.specs.Limits.{symbol_limit, edge, pattern_limit, room_size, word_limit}
-use Rattle.std.specs.Prelude.{Ok, Err}
+use Rattle.std.specs.Prelude.{Ok}
 use Rattle.rooms.specs.Rooms.{written, bit}
 use Rattle.rooms.proofs.Sheets.{written_low}
 use Rattle.words.specs.Symbols.{apostrophe, small, lower, letter, symbol_of}

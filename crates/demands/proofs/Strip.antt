@@ -16,7 +16,7 @@ use Rattle.table.specs.Table.{root_base, cells_of, entries_of}
 use Rattle.hyphenation.specs.Levels.{level_at}
 use Rattle.hyphenation.specs.Breaks.{is_break}
 use Rattle.hyphenation.specs.Calls.{Breaks, found}
-use Rattle.std.specs.Prelude.{Ok, Err, Result}
+use Rattle.std.specs.Prelude.{Result}
 use Rattle.gauge.specs.Fit.{break_found, fit_said, fit_answer}
 use Rattle.gauge.specs.Strip.{IsBreak}
 use Rattle.gauge.specs.declared.Gauge.{Gauge}

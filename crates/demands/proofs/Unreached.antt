@@ -131,7 +131,7 @@ checked_alike text table other a = rw (← (table_alike 0 table other a)) (go (j
         → first p (first q (refuse_if (not (right_for text table)) NotRight)) ≡ first p (first q (refuse_if (not (right_for text other)) NotRight))
     go (Err g) e q f = refl
     go (Ok _) e (Err g) f = refl
-    go (Ok tt) e (Ok tt) f =
+    go (Ok _) e (Ok _) f =
         rw (
           kinds_test_alike 0 table other a f (sym (table_alike 0 table other a) ∙ f),
           paths_test_alike 0 table other a (patterns_of text) (good_sorted text e) (good_patterns text e),

@@ -5,7 +5,7 @@ use mathlib.Core.List.{List}
 use mathlib.Core.Path.{◌≡◌, ◌∙◌}
 use lib.ListN.{length, drop}
 use Rattle.base.specs.Limits.{pattern_limit, word_limit}
-use Rattle.std.specs.Prelude.{Ok, Err}
+use Rattle.std.specs.Prelude.{Ok}
 use Rattle.words.specs.Words.{judge_word, row_of}
 use Rattle.words.proofs.Laws.{row_length}
 use Rattle.lookup.specs.Listed.{Listed}

@@ -1,7 +1,7 @@
 // First fit's entries: made once, and shared where they are equal.
 #![tactic(auto)]
 
-ghost use Rattle.std.specs.Prelude.{◌≡◌, ◌+◌, ◌*◌, ◌≤◌, suc, length};
+ghost use Rattle.std.specs.Prelude.{◌≡◌, ◌+◌, ◌*◌, ◌≤◌, ◌<◌, suc, length, unwrap_or, IfSome};
 ghost use Rattle.base.specs.Limits.{pattern_limit, entry_limit};
 ghost use Rattle.liang.specs.Patterns.{levels_from};
 ghost use Rattle.table.specs.Table.{entry_size, entry_room};
@@ -29,25 +29,19 @@ fn is_entry(bytes: &[u8], at: usize, distance: u8, level: u8, next: u16) -> bool
     table::number_at(bytes, at + 3) == next
 }
 
-// The number of the first entry that holds them, 0 if none does.
-fn find_entry(bytes: &[u8], count: u16, distance: u8, level: u8, next: u16) -> u16
+// The number of the first entry that holds them. No entry has number 0.
+fn find_entry(bytes: &[u8], count: u16, distance: u8, level: u8, next: u16) -> Option<u16>
     requires { (entry_size * count ≤ length bytes.now) × (count ≤ entry_limit) }
-    ensures { result ≡ fit.find_entry bytes.now distance level next 1 count }
+    ensures number { unwrap_or result 0 ≡ fit.find_entry bytes.now distance level next 1 count }
+    ensures counted { IfSome result (λ k. 0 < k) }
 {
-    let mut k: u16 = 1;
-    while k <= count {
-        if is_entry(
-            bytes,
-            table::ENTRY_SIZE * (k as usize - 1),
-            distance,
-            level,
-            next,
-        ) {
-            return k;
+    for k in 1..count + 1 {
+        let at = table::ENTRY_SIZE * (k as usize - 1);
+        if is_entry(bytes, at, distance, level, next) {
+            return Some(k);
         }
-        k += 1;
     }
-    0
+    None
 }
 
 fn put_entry(bytes: &mut [u8], at: usize, distance: u8, level: u8, next: u16)
@@ -66,9 +60,8 @@ fn enter(bytes: &mut [u8], count: u16, next: u16, distance: u8, level: u8) -> Op
     ensures next_value { fit.enter distance level (fit.Made bytes.old count next) ≡ as_entries bytes.new result }
     ensures result_bound { count_of result ≤ entry_limit }
 {
-    let found = find_entry(bytes, count, distance, level, next);
-    if found != 0 {
-        return Some(Made { count, last: found });
+    if let Some(last) = find_entry(bytes, count, distance, level, next) {
+        return Some(Made { count, last });
     }
     if (count as usize) < base::ENTRY_LIMIT {
         put_entry(
@@ -97,16 +90,14 @@ pub fn enter_levels(bytes: &mut [u8], count: u16, line: &[u8], m: u8) -> Option<
 {
     let mut made = count;
     let mut last: u16 = 0;
-    let mut d: u8 = 0;
-    while d <= m {
-        let level = patterns::level_at(line, (m - d) as usize);
-        let distance = d;
-        d += 1;
-        if level != 0 {
-            let step = enter(bytes, made, last, distance, level)?;
-            made = step.count;
-            last = step.last;
+    for distance in 0..m + 1 {
+        let level = patterns::level_at(line, (m - distance) as usize);
+        if level == 0 {
+            continue;
         }
+        let step = enter(bytes, made, last, distance, level)?;
+        made = step.count;
+        last = step.last;
     }
     Some(Made { count: made, last })
 }

@@ -16,7 +16,7 @@ use Rattle.liang.specs.Patterns.{levels_from, pattern_of, patterns_of}
 use Rattle.liang.specs.Levels.{begins, level_here, level_of, highest, liang}
 use Rattle.hyphenation.specs.Breaks.{is_break, break_sheet, break_looks}
 use Rattle.liang.specs.Breaks.{hyphen_at, in_margins, odd, line_break, level_break, bad_margin}
-use Rattle.table.specs.Table.{root_base, number_at, cell_count, entry_count, formed, table_grounds, cells_from, entries_from, cells_of, entries_of, look, entry_at, Look, hit}
+use Rattle.table.specs.Table.{root_base, number_at, cell_count, entry_count, formed, table_grounds, cells_from, entries_from, cells_of, entries_of, look, entry_at, Look}
 use Rattle.walk.specs.Chain.{setting, chain_step, chain_from, chain}
 use Rattle.walk.specs.Walk.{set_step, set_from, look_step, looks_from, settings, looks}
 use Rattle.walk.specs.Raise.{highest_set}

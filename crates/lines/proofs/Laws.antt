@@ -17,8 +17,8 @@ use Rattle.lines.specs.Apostrophes.{letter_symbol, letter_next, apostrophes_fit,
 use Rattle.lines.specs.Lines.{glue, cut, line_length, first_line, is_nil, starts_with, any_of, line_letter, pattern_form, pattern_bytes, good_pattern, exception_form, exception_bytes, good_exception}
 use Rattle.lines.specs.Order.{before}
 use Rattle.lines.specs.Ends.{end_if}
-use Rattle.lines.specs.declared.End.{End}
-use Rattle.lines.specs.declared.End.TheVariants.{At, Bad}
+use Rattle.std.specs.Prelude.{Option, Some, None}
+use Rattle.std.specs.Bool.{then_some}
 
 -- where a line ends
 module _ (at : ℕ) (w : List ℕ) (i : ℕ) where
@@ -97,17 +97,21 @@ line_letter_symbol b e = go (small b) refl (eqb b apostrophe) refl e
     go false p false r h = never h
 
 -- what a line's judgement and its end make of each other
-pub end_bad : {good : Bool} (e : ℕ) → good ≡ false → Bad ≡ end_if good e
+pub end_bad : {good : Bool} (e : ℕ) → good ≡ false → None ≡ end_if good e
 end_bad e g = rw g
 
-pub end_good : {good : Bool} {i e : ℕ} → good ≡ true → i ≡ e → At i ≡ end_if good e
+pub end_good : {good : Bool} {i e : ℕ} → good ≡ true → i ≡ e → Some i ≡ end_if good e
 end_good g p = rw (g, p)
 
-pub ends_bad : (good : Bool) (e : ℕ) {r : End} → r ≡ end_if good e → r ≡ Bad → good ≡ false
+pub end_told : (good : Bool) (e : ℕ) {z : Bool} {r : Option ℕ} → r ≡ then_some z e → good ≡ z → r ≡ end_if good e
+end_told true e p q = rw (← q) at p
+end_told false e p q = rw (← q) at p
+
+pub ends_bad : (good : Bool) (e : ℕ) {r : Option ℕ} → r ≡ end_if good e → r ≡ None → good ≡ false
 ends_bad true e p q = clash cc
 ends_bad false e p q = refl
 
-pub ends_good : (good : Bool) (e : ℕ) {r : End} {i : ℕ} → r ≡ end_if good e → r ≡ At i → (good ≡ true) × (i ≡ e)
+pub ends_good : (good : Bool) (e : ℕ) {r : Option ℕ} {i : ℕ} → r ≡ end_if good e → r ≡ Some i → (good ≡ true) × (i ≡ e)
 ends_good true e p q = (refl, cc)
 ends_good false e p q = clash cc
 
@@ -212,7 +216,7 @@ fit_if ends false line e = sym (plain_fit ends ends line e)
 
 -- a line whose bytes are good ends here where its apostrophes fit
 end_fit : (ends : Bool) (w : List ℕ) (at e : ℕ) (any : Bool) → e ≡ at + line_length (drop at w) → has_apostrophe (first_line (drop at w)) ≡ any → {bytes : Bool} → bytes ≡ true
-    → {r : End} → r ≡ end_if (fit_if_any ends any (take (e - at) (drop at w))) e
+    → {r : Option ℕ} → r ≡ end_if (fit_if_any ends any (take (e - at) (drop at w))) e
     → r ≡ end_if (bytes && apostrophes_fit ends ends (symbols_of (first_line (drop at w)))) (at + line_length (drop at w))
 end_fit ends w at e any q s b p =
     p ∙ ap (λ (l : List ℕ). end_if (fit_if_any ends any l) e) (sym (first_line_lem w at e q)) ∙ rw (fit_if ends any (first_line (drop at w)) s, b, q)
@@ -432,7 +436,7 @@ module _ (text : List ℕ) (at : ℕ) (o a ls ds seen : Bool) (n i : ℕ) (l : P
             pub patterned_long : not ls ≡ false → not ds ≡ false → pattern_limit < n → good_pattern (first_line (drop at text)) ≡ false
             patterned_long g k m = bad (pattern_long text i h o a ls ds n e d z q f g k m)
 
-            pub patterned_whole : not ls ≡ false → not ds ≡ false → n ≤ pattern_limit → {r : End} → r ≡ end_if (fit_if_any true seen (take (i + 1 - at) (drop at text))) (i + 1)
+            pub patterned_whole : not ls ≡ false → not ds ≡ false → n ≤ pattern_limit → {r : Option ℕ} → r ≡ end_if (fit_if_any true seen (take (i + 1 - at) (drop at text))) (i + 1)
                 → r ≡ end_if (good_pattern (first_line (drop at text))) (at + line_length (drop at text))
             unfolding good_pattern
             patterned_whole g k m p =
@@ -592,7 +596,7 @@ module _ (text : List ℕ) (at run hyphens : ℕ) (seen : Bool) (i : ℕ) (l : L
               pub lettered_long : word_limit < i - at - hyphens → good_exception (first_line (drop at text)) ≡ false
               lettered_long k = exception_bad (first_line (drop at text)) (l.same ∙ exception_long text i h (ltb run i) (i - at - hyphens) e q after y f k)
 
-              pub lettered_whole : i - at - hyphens ≤ word_limit → {r : End} → r ≡ end_if (fit_if_any false seen (take (i + 1 - at) (drop at text))) (i + 1)
+              pub lettered_whole : i - at - hyphens ≤ word_limit → {r : Option ℕ} → r ≡ end_if (fit_if_any false seen (take (i + 1 - at) (drop at text))) (i + 1)
                   → r ≡ end_if (good_exception (first_line (drop at text))) (at + line_length (drop at text))
               unfolding good_exception
               lettered_whole k p =

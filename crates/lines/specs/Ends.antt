@@ -1,8 +1,6 @@
 -- Where a line ends, told only of a good one.
-use Rattle.std.specs.Prelude.{ℕ, Bool, true, false}
-use Rattle.lines.specs.declared.End.{End}
-use Rattle.lines.specs.declared.End.TheVariants.{At, Bad}
+use Rattle.std.specs.Prelude.{ℕ, Bool, true, false, Option, Some, None}
 
-abbrev pub end_if : Bool → ℕ → End
-end_if true end = At end
-end_if false end = Bad
+abbrev pub end_if : Bool → ℕ → Option ℕ
+end_if true end = Some end
+end_if false end = None

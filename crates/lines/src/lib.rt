@@ -8,26 +8,16 @@ ghost use Rattle.lines.specs.Lines.{line_length, first_line, starts_with, good_p
 ghost use Rattle.lines.specs.Order.{before};
 ghost use Rattle.lines.specs.Ends.{end_if};
 
-// Where a line ends that is good as it stands, or that it is bad.
-#[derive(Clone, Copy)]
-pub enum End {
-    At(usize),
-    Bad,
-}
-
 // Where the line that begins at a place ends: past its line feed, or at the text's end.
 pub fn line_end(text: &[u8], at: usize) -> usize
     ensures { result ≡ at + line_length (drop at text.now) }
 {
-    let mut i = at;
-    while i < text.len() {
-        let b = text[i];
-        i += 1;
-        if b == words::LINE_FEED {
-            return i;
+    for i in at..text.len() {
+        if text[i] == words::LINE_FEED {
+            return i + 1;
         }
     }
-    i
+    text.len().max(at)
 }
 
 // May a "." stand here: as the first byte of its line, or with the line feed right after it, at i?
@@ -50,27 +40,26 @@ fn apostrophes_fit(ends: bool, line: &[u8]) -> bool
 {
     let mut before = ends;
     let mut waits = false;
-    let mut i = 0;
-    while i < line.len() {
-        let s = words::symbol_of(line[i]);
-        i += 1;
-        if s != 0 {
-            if s <= base::LETTER_LIMIT {
-                before = true;
-                waits = false;
-            } else {
-                if waits {
-                    return false;
-                }
-                if s == base::APOSTROPHE_SYMBOL {
-                    if !before {
-                        return false;
-                    }
-                    waits = true;
-                }
-                before = false;
-            }
+    for b in line {
+        let s = words::symbol_of(*b);
+        if s == 0 {
+            continue;
         }
+        if s <= base::LETTER_LIMIT {
+            before = true;
+            waits = false;
+            continue;
+        }
+        if waits {
+            return false;
+        }
+        if s == base::APOSTROPHE_SYMBOL {
+            if !before {
+                return false;
+            }
+            waits = true;
+        }
+        before = false;
     }
     if waits {
         return ends;
@@ -79,20 +68,14 @@ fn apostrophes_fit(ends: bool, line: &[u8]) -> bool
 }
 
 // Where a line ends whose bytes are good, if its apostrophes stand where they may. Most lines have none, and are not read again.
-fn end_if_fit(ends: bool, apostrophes: bool, line: &[u8], end: usize) -> End
+fn end_if_fit(ends: bool, apostrophes: bool, line: &[u8], end: usize) -> Option<usize>
     ensures { result ≡ end_if (fit_if_any ends apostrophes line.now) end }
 {
-    if !apostrophes {
-        return End::At(end);
-    }
-    if apostrophes_fit(ends, line) {
-        return End::At(end);
-    }
-    End::Bad
+    (!apostrophes || apostrophes_fit(ends, line)).then_some(end)
 }
 
 // The line that begins at a place, judged as a pattern line by itself: its form and its end are found in one pass.
-pub fn pattern_end(text: &[u8], at: usize) -> End
+pub fn pattern_end(text: &[u8], at: usize) -> Option<usize>
     ensures { result ≡ end_if (good_pattern (first_line (drop at text.now))) (at + line_length (drop at text.now)) }
 {
     let mut opening = true;
@@ -101,113 +84,112 @@ pub fn pattern_end(text: &[u8], at: usize) -> End
     let mut digits = false;
     let mut apostrophes = false;
     let mut count: usize = 0;
-    let mut i = at;
-    while i < text.len() {
+    for i in at..text.len() {
         let b = text[i];
-        i += 1;
         if words::is_small(b) {
             letters = true;
             count += 1;
             after_digit = false;
             opening = false;
-        } else if words::is_digit(b) {
+            continue;
+        }
+        if words::is_digit(b) {
             if after_digit {
-                return End::Bad;
+                return None;
             }
             digits = true;
             after_digit = true;
             opening = false;
-        } else if b == words::DOT {
-            if !dot_fits(opening, text, i) {
-                return End::Bad;
+            continue;
+        }
+        if b == words::DOT {
+            if !dot_fits(opening, text, i + 1) {
+                return None;
             }
             count += 1;
             after_digit = false;
             opening = false;
-        } else if b == words::APOSTROPHE {
+            continue;
+        }
+        if b == words::APOSTROPHE {
             apostrophes = true; // none of the 26
             count += 1; // but a symbol
             after_digit = false;
             opening = false;
-        } else {
-            if b != words::LINE_FEED {
-                return End::Bad;
-            }
-            if !letters {
-                return End::Bad;
-            }
-            if !digits {
-                return End::Bad;
-            }
-            if base::PATTERN_LIMIT < count {
-                return End::Bad;
-            }
-            return end_if_fit(true, apostrophes, &text[at..i], i);
+            continue;
         }
+        if b != words::LINE_FEED {
+            return None;
+        }
+        if !letters {
+            return None;
+        }
+        if !digits {
+            return None;
+        }
+        if base::PATTERN_LIMIT < count {
+            return None;
+        }
+        return end_if_fit(true, apostrophes, &text[at..=i], i + 1);
     }
-    End::Bad
+    None
 }
 
 // The same for an exception line. Most bytes are letters, and nothing is kept of them: `run` is where the letters in hand begin, and a
 // line's letters, apostrophes among them, are its bytes without the hyphens.
-pub fn exception_end(text: &[u8], at: usize) -> End
+pub fn exception_end(text: &[u8], at: usize) -> Option<usize>
     ensures { result ≡ end_if (good_exception (first_line (drop at text.now))) (at + line_length (drop at text.now)) }
 {
     let mut run = at;
     let mut hyphens: usize = 0;
     let mut apostrophes = false;
-    let mut i = at;
-    while i < text.len() {
+    for i in at..text.len() {
         let b = text[i];
         if words::is_small(b) {
-            i += 1;
-        } else if b == words::APOSTROPHE {
+            continue;
+        }
+        if b == words::APOSTROPHE {
             apostrophes = true; // as a letter, it may stand beside a hyphen
-            i += 1;
+            continue;
+        }
+        if i == run {
+            return None; // no letter stands before
+        }
+        let letters = i - at - hyphens;
+        if b == words::HYPHEN {
+            run = i + 1;
+            hyphens += 1;
         } else {
-            if i == run {
-                return End::Bad; // no letter stands before
+            if b != words::LINE_FEED {
+                return None;
             }
-            let letters = i - at - hyphens;
-            i += 1;
-            if b == words::HYPHEN {
-                run = i;
-                hyphens += 1;
-            } else {
-                if b != words::LINE_FEED {
-                    return End::Bad;
-                }
-                if base::WORD_LIMIT < letters {
-                    return End::Bad;
-                }
-                return end_if_fit(false, apostrophes, &text[at..i], i);
+            if base::WORD_LIMIT < letters {
+                return None;
             }
+            return end_if_fit(false, apostrophes, &text[at..=i], i + 1);
         }
     }
-    End::Bad
+    None
 }
 
 // How many leading bytes two lines share: their order is that of what is left of them.
 fn same_bytes(above: &[u8], line: &[u8]) -> usize
     ensures { (result ≤ length above.now) × (result ≤ length line.now) × (before (symbols_of above.now) (symbols_of line.now) ≡ before (symbols_of (drop result above.now)) (symbols_of (drop result line.now))) }
 {
-    let mut i = 0;
-    while i < above.len() {
-        if line.len() <= i {
-            return i;
-        }
+    let both = above.len().min(line.len());
+    for i in 0..both {
         if above[i] != line[i] {
             return i;
         }
-        i += 1;
     }
-    i
+    both
 }
 
 // Do the symbols of a line ascend strictly from those of the line above?
 pub fn ascends(above: &[u8], line: &[u8]) -> bool
     ensures { result ≡ before (symbols_of above.now) (symbols_of line.now) }
 {
+    // Each line goes on at its own pace, over bytes that are no symbols: one iterator, put on by hand, would read no plainer than two places.
     let same = same_bytes(above, line);
     let mut i = same;
     let mut j = same;

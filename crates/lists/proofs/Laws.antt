@@ -15,19 +15,18 @@ use Rattle.words.specs.Symbols.{symbols_of}
 use Rattle.std.proofs.lemmas.Result.{err_from_is_err_and}
 use Rattle.lines.specs.Lines.{cut, line_length, first_line, good_pattern, good_exception}
 use Rattle.lines.specs.Ends.{end_if}
-use Rattle.lines.specs.declared.End.{End}
-use Rattle.lines.specs.declared.End.TheVariants.{At, Bad}
+use Rattle.std.specs.Prelude.{Option, Some, None}
 use Rattle.lines.specs.Order.{before}
 use Rattle.lines.proofs.Laws.{cut_line, line_size, line_starts, first_line_lem, ends_bad, ends_good}
 use Rattle.lists.specs.Lists.{Lines, good_line, first_bad, judge_lines, judge_size, bad_pattern, bad_exception, judge_patterns, judge_exceptions, judge_lists}
 use Rattle.lists.specs.declared.Form.{Form}
 use Rattle.lists.specs.declared.Form.TheVariants.{Patterns, Exceptions}
 
-pub pattern_form_lem : {form : Form} (l : List ℕ) (e : ℕ) {r : End} → r ≡ end_if (good_pattern l) e → form ≡ Patterns → r ≡ end_if (good_line form l) e
+pub pattern_form_lem : {form : Form} (l : List ℕ) (e : ℕ) {r : Option ℕ} → r ≡ end_if (good_pattern l) e → form ≡ Patterns → r ≡ end_if (good_line form l) e
 unfolding good_line
 pattern_form_lem l e p f = rw f p
 
-pub exception_form_lem : {form : Form} (l : List ℕ) (e : ℕ) {r : End} → r ≡ end_if (good_exception l) e → form ≡ Exceptions → r ≡ end_if (good_line form l) e
+pub exception_form_lem : {form : Form} (l : List ℕ) (e : ℕ) {r : Option ℕ} → r ≡ end_if (good_exception l) e → form ≡ Exceptions → r ≡ end_if (good_line form l) e
 unfolding good_line
 exception_form_lem l e p f = rw f p
 
@@ -41,22 +40,22 @@ unfolding first_bad cut
 lines_end form w at above h = rw (drop_of_length-le w h)
 
 -- what the search for a good line's end says of the line
-module _ (form : Form) (w : List ℕ) (at : ℕ) {r : End} (p : r ≡ end_if (good_line form (first_line (drop at w))) (at + line_length (drop at w))) where
-  pub found_end : {e : ℕ} → r ≡ At e → e ≡ at + line_length (drop at w)
+module _ (form : Form) (w : List ℕ) (at : ℕ) {r : Option ℕ} (p : r ≡ end_if (good_line form (first_line (drop at w))) (at + line_length (drop at w))) where
+  pub found_end : {e : ℕ} → r ≡ Some e → e ≡ at + line_length (drop at w)
   found_end q = (ends_good (good_line form (first_line (drop at w))) _ p q).1
 
-  found_good : {e : ℕ} → r ≡ At e → good_line form (take (e - at) (drop at w)) ≡ true
+  found_good : {e : ℕ} → r ≡ Some e → good_line form (take (e - at) (drop at w)) ≡ true
   found_good {e} q = rw (first_line_lem w at e (found_end q)) at (ends_good (good_line form (first_line (drop at w))) _ p q).0
 
   module _ (above : List ℕ) (h : at < length w) where
-    pub line_bad : r ≡ Bad → first_bad form at above (cut (drop at w)) ≡ Err at
+    pub line_bad : r ≡ None → first_bad form at above (cut (drop at w)) ≡ Err at
     unfolding first_bad
     line_bad q =
         let s : at + line_length (drop at w) ≡ at + line_length (drop at w) = refl in
         let g = rw (first_line_lem w at _ s) at (ends_bad (good_line form (first_line (drop at w))) _ p q) in
         rw (cut_line w at _ h s, g)
 
-    module _ {e : ℕ} (q : r ≡ At e) where
+    module _ {e : ℕ} (q : r ≡ Some e) where
       pub line_low : before (symbols_of above) (symbols_of (take (e - at) (drop at w))) ≡ false → first_bad form at above (cut (drop at w)) ≡ Err at
       unfolding first_bad
       line_low b = rw (cut_line w at e h (found_end q), found_good q, b)

@@ -9,7 +9,6 @@ ghost use Rattle.lists.specs.declared.Form.{Form};
 ghost use Rattle.lists.specs.Lists.{good_line, judge_lines, size_grounds, bad_pattern, bad_exception, pattern_grounds, exception_grounds, list_grounds};
 
 use base::Ground;
-use lines::End;
 
 // What the lines of a list are.
 #[derive(Clone, Copy)]
@@ -19,7 +18,7 @@ pub enum Form {
 }
 
 // Where the line that begins at a place ends, if it is good as it stands.
-fn good_end(form: Form, text: &[u8], at: usize) -> End
+fn good_end(form: Form, text: &[u8], at: usize) -> Option<usize>
     ensures { result ≡ end_if (good_line form (first_line (drop at text.now))) (at + line_length (drop at text.now)) }
 {
     match form {
@@ -36,7 +35,7 @@ pub fn judge_lines(form: Form, text: &[u8]) -> Result<(), usize>
     let mut at = 0;
     while at < text.len() {
         let found = good_end(form, text, at);
-        let End::At(end) = found else {
+        let Some(end) = found else {
             return Err(at); // bad as it stands
         };
         if !lines::ascends(&text[above..at], &text[at..end]) {

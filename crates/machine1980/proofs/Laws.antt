@@ -7,6 +7,7 @@ use native.Mathlib.Omega.{arith}
 use borrow.Author.Tests.{lt-ltb, le-ltb, lt-leb, le-leb, eq-eqb, ne_eqb, ltb-true, ltb-false}
 use lib.Dec.{leb, ltb}
 use lib.ListN.{length, take}
+use Rattle.std.specs.Prelude.{Option, Some, None}
 use Rattle.base.specs.Limits.{room_size1980, short_word1980, word_limit1980}
 use Rattle.base.specs.Grounds.{Finds}
 use Rattle.std.specs.Prelude.{Ok, Err, None}
@@ -15,15 +16,12 @@ use Rattle.words.specs.Words.{judge_letters}
 use Rattle.rooms.specs.Rooms.{is_short, sheet_from, sheet, written, nonzero, bit}
 use Rattle.rooms.proofs.Sheets.{sheet_same, written_take}
 use Rattle.sheet1980.specs.Sheet.{u, mem, sheet_of, Sheet}
+use Rattle.sheet1980.specs.declared.Stopped.{Stopped}
 use Rattle.suffix1980.specs.Suffixes.{infinity, sufbegin, phase2}
 use Rattle.suffix1980.specs.Joined as suffixes
-use Rattle.suffix1980.specs.declared.Ran as suffix-ran
-use Rattle.suffix1980.specs.declared.Ran.TheVariants as sran
 use Rattle.suffix1980.proofs.Budget as suffix-budget
 use Rattle.prefix1980.specs.Prefixes.{restartp, phase3}
 use Rattle.prefix1980.specs.Joined as prefixes
-use Rattle.prefix1980.specs.declared.Ran as prefix-ran
-use Rattle.prefix1980.specs.declared.Ran.TheVariants as pran
 use Rattle.prefix1980.proofs.Budget as prefix-budget
 use Rattle.middle1980.specs.Middles.{phase4}
 use Rattle.middle1980.specs.Joined as middle
@@ -32,8 +30,7 @@ use Rattle.machine1980.specs.Run.{Outcome, RanOut, Marked, from_prefixes, from_s
 use Rattle.machine1980.specs.Breaks.{shows, in_print, is_break, break_sheet}
 use Rattle.machine1980.specs.Calls.{judge1980, said1980, values_of, left_by, reprint}
 use Rattle.machine1980.specs.Post.{joined, Answered}
-use Rattle.machine1980.specs.declared.Marks.{Marks}
-use Rattle.machine1980.specs.declared.Marks.TheVariants as marks
+use Rattle.machine1980.specs.declared.Made.{Made}
 
 -- the room's ground, then the word's
 pub judge_short : (word : List ℕ) (size : ℕ) {short : Bool} → short ≡ is_short room_size1980 size → short ≡ true → Err RoomShort ≡ judge1980 word size
@@ -45,41 +42,41 @@ unfolding judge1980
 judge_on word size p q = rw (← p, q)
 
 -- phase 2 and what follows it
-module _ (budget n : ℕ) (s after : List ℕ) {r : suffix-ran.Ran} (p : suffixes.told r after ≡ phase2 budget n s) where
-  pub suffix_out : r ≡ sran.Out → RanOut ≡ run budget n s
+module _ (budget n : ℕ) (s after : List ℕ) {r : Option (Stopped ℕ)} (p : suffixes.told r after ≡ phase2 budget n s) where
+  pub suffix_out : r ≡ None → RanOut ≡ run budget n s
   unfolding run from_suffixes
-  suffix_out e = ap (from_suffixes budget n) (ap (λ (x : suffix-ran.Ran). suffixes.told x after) (sym e) ∙ p)
+  suffix_out e = ap (from_suffixes budget n) (ap (λ (x : Option (Stopped ℕ)). suffixes.told x after) (sym e) ∙ p)
 
-  module _ (left finale : ℕ) (e : r ≡ sran.Stopped left finale) where
-    pub suffix_on : (m : Marks) (t : List ℕ) → joined m t ≡ from_prefixes budget n finale (phase3 left after) → joined m t ≡ run budget n s
+  module _ (left finale : ℕ) (e : r ≡ Some (record { left = left; next = finale })) where
+    pub suffix_on : (m : Option Made) (t : List ℕ) → joined m t ≡ from_prefixes budget n finale (phase3 left after) → joined m t ≡ run budget n s
     unfolding run from_suffixes
-    suffix_on m t q = q ∙ ap (from_suffixes budget n) (ap (λ (x : suffix-ran.Ran). suffixes.told x after) (sym e) ∙ p)
+    suffix_on m t q = q ∙ ap (from_suffixes budget n) (ap (λ (x : Option (Stopped ℕ)). suffixes.told x after) (sym e) ∙ p)
 
     pub suffix_rest : left ≤ budget
     unfolding phase2
     suffix_rest =
-        omega (arith, ap suffix-budget.left_of (ap (λ (x : suffix-ran.Ran). suffixes.told x after) (sym e) ∙ p), suffix-budget.left_within budget n (sufbegin (u + n - 1) true infinity s))
+        omega (arith, ap suffix-budget.left_of (ap (λ (x : Option (Stopped ℕ)). suffixes.told x after) (sym e) ∙ p), suffix-budget.left_within budget n (sufbegin (u + n - 1) true infinity s))
 
     pub suffix_sheet : suffixes.Ready n r after → Sheet n after
-    suffix_sheet k = subst (λ (x : suffix-ran.Ran). suffixes.Ready n x after) e k
+    suffix_sheet k = subst (λ (x : Option (Stopped ℕ)). suffixes.Ready n x after) e k
 
 -- phase 3 and what follows it
-module _ (budget left finale n : ℕ) (s after : List ℕ) {r : prefix-ran.Ran} (p : prefixes.told r after ≡ phase3 left s) where
-  pub prefix_out : r ≡ pran.Out → RanOut ≡ from_prefixes budget n finale (phase3 left s)
+module _ (budget left finale n : ℕ) (s after : List ℕ) {r : Option (Stopped Step)} (p : prefixes.told r after ≡ phase3 left s) where
+  pub prefix_out : r ≡ None → RanOut ≡ from_prefixes budget n finale (phase3 left s)
   unfolding from_prefixes
-  prefix_out e = ap (from_prefixes budget n finale) (ap (λ (x : prefix-ran.Ran). prefixes.told x after) (sym e) ∙ p)
+  prefix_out e = ap (from_prefixes budget n finale) (ap (λ (x : Option (Stopped Step)). prefixes.told x after) (sym e) ∙ p)
 
-  module _ (rest : ℕ) (step : Step) (e : r ≡ pran.Stopped rest step) where
+  module _ (rest : ℕ) (step : Step) (e : r ≡ Some (record { left = rest; next = step })) where
     pub prefix_on : {t : List ℕ} → t ≡ phase4 n finale (middle.joined step after) → Marked finale t (budget - rest) ≡ from_prefixes budget n finale (phase3 left s)
     unfolding from_prefixes
-    prefix_on q = ap (λ (l : List ℕ). Marked finale l (budget - rest)) q ∙ ap (from_prefixes budget n finale) (ap (λ (x : prefix-ran.Ran). prefixes.told x after) (sym e) ∙ p)
+    prefix_on q = ap (λ (l : List ℕ). Marked finale l (budget - rest)) q ∙ ap (from_prefixes budget n finale) (ap (λ (x : Option (Stopped Step)). prefixes.told x after) (sym e) ∙ p)
 
     pub prefix_rest : rest ≤ left
     unfolding phase3
-    prefix_rest = omega (arith, ap prefix-budget.left_of (ap (λ (x : prefix-ran.Ran). prefixes.told x after) (sym e) ∙ p), prefix-budget.left_within left (restartp (u + 2) (mem s (u + 1)) s))
+    prefix_rest = omega (arith, ap prefix-budget.left_of (ap (λ (x : Option (Stopped Step)). prefixes.told x after) (sym e) ∙ p), prefix-budget.left_within left (restartp (u + 2) (mem s (u + 1)) s))
 
     pub prefix_ready : prefixes.Ready n r after → Sheet n after × middle.Placed n step
-    prefix_ready k = subst (λ (x : prefix-ran.Ran). prefixes.Ready n x after) e k
+    prefix_ready k = subst (λ (x : Option (Stopped Step)). prefixes.Ready n x after) e k
 
 -- does a hyphen show?
 module _ (finale : ℕ) (s : List ℕ) (k : ℕ) {c : ℕ} (p : c ≡ mem s (u + k)) where
@@ -129,27 +126,27 @@ module _ (budget : ℕ) (word : List ℕ) (room : List ℕ) (long : short_word19
   unfolding machine
   ran = rw (lt-leb (length word) short_word1980 long)
 
-  module _ (m : Marks) {s : List ℕ} (t : List ℕ) (w : s ≡ sheet_of word) (p : joined m t ≡ run budget (length word) s) where
+  module _ (m : Option Made) {s : List ℕ} (t : List ℕ) (w : s ≡ sheet_of word) (p : joined m t ≡ run budget (length word) s) where
     came : joined m t ≡ machine budget word
     came = p ∙ ap (λ (l : List ℕ). run budget (length word) l) w ∙ sym ran
 
-    pub out_answered : m ≡ marks.Out → Answered budget word room (Ok None) room
+    pub out_answered : m ≡ None → Answered budget word room (Ok None) room
     unfolding said1980 values_of left_by
     out_answered e =
-        let q : RanOut ≡ machine budget word = ap (λ (x : Marks). joined x t) (sym e) ∙ came in
+        let q : RanOut ≡ machine budget word = ap (λ (x : Option Made). joined x t) (sym e) ∙ came in
         record {
           answered = ap (λ (o : Outcome). Finds (values_of (length word) o)) q;
           memory = ap (λ (o : Outcome). left_by (length word) o room) q;
         }
 
-    pub made_answered : (finale executed : ℕ) {after : List ℕ} {breaks : ℕ} → m ≡ marks.Made finale executed → after ≡ written room_size1980 (break_sheet (length word) finale t) room
-        → breaks ≡ nonzero (take room_size1980 after) → Answered budget word room (reprint breaks executed) after
+    pub made_answered : (made : Made) {after : List ℕ} {breaks : ℕ} → m ≡ Some made → after ≡ written room_size1980 (break_sheet (length word) made.finale t) room
+        → breaks ≡ nonzero (take room_size1980 after) → Answered budget word room (reprint breaks made.executed) after
     unfolding said1980 values_of left_by
-    made_answered finale executed {after} {breaks} e a b =
-        let q : Marked finale t executed ≡ machine budget word = ap (λ (x : Marks). joined x t) (sym e) ∙ came in
-        let c : breaks ≡ nonzero (break_sheet (length word) finale t) = b ∙ rw a (ap nonzero (taken (length word) finale t room)) in
+    made_answered made {after} {breaks} e a b =
+        let q : Marked made.finale t made.executed ≡ machine budget word = ap (λ (x : Option Made). joined x t) (sym e) ∙ came in
+        let c : breaks ≡ nonzero (break_sheet (length word) made.finale t) = b ∙ rw a (ap nonzero (taken (length word) made.finale t room)) in
         record {
-          answered = ap (λ k. Finds (0 ∷ k ∷ executed ∷ [])) c ∙ ap (λ (o : Outcome). Finds (values_of (length word) o)) q;
+          answered = ap (λ k. Finds (0 ∷ k ∷ made.executed ∷ [])) c ∙ ap (λ (o : Outcome). Finds (values_of (length word) o)) q;
           memory = a ∙ ap (λ (o : Outcome). left_by (length word) o room) q;
         }
 

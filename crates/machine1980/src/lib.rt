@@ -30,9 +30,9 @@ pub const RAN_OUT_OUTCOME: usize = 1;
 
 // What the machines come to on a sheet.
 #[derive(Clone, Copy)]
-pub enum Marks {
-    Out,
-    Made { finale: usize, executed: usize },
+pub struct Made {
+    pub finale: usize,
+    pub executed: usize,
 }
 
 // Hyphens show before letters 3 to n - 2, that is in gaps 2 to n - 3: this is the first, and these are the letters behind the last.
@@ -54,31 +54,25 @@ pub fn judge_1980(word: &[u8], size: usize) -> Result<(), Ground>
 }
 
 // Phases 3 and 4, with what phase 2 has left of the budget.
-fn run_on(budget: usize, left: usize, finale: usize, n: usize, sheet: &mut [u8]) -> Marks
+fn run_on(budget: usize, left: usize, finale: usize, n: usize, sheet: &mut [u8]) -> Option<Made>
     requires { (left ≤ budget) × (short_word1980 < n) × (n ≤ word_limit1980) × Sheet n sheet.old }
     ensures { joined result sheet.new ≡ from_prefixes budget n finale (phase3 left sheet.old) }
 {
-    match prefix1980::remove_prefixes(left, n, sheet) {
-        prefix1980::Ran::Out => Marks::Out,
-        prefix1980::Ran::Stopped { left: rest, step } => {
-            middle1980::mark_middle(finale, n, step, sheet);
-            Marks::Made {
-                finale,
-                executed: budget - rest,
-            }
-        }
-    }
+    let stopped = prefix1980::remove_prefixes(left, n, sheet)?;
+    middle1980::mark_middle(finale, n, stopped.next, sheet);
+    Some(Made {
+        finale,
+        executed: budget - stopped.left,
+    })
 }
 
 // Phases 2 to 4.
-fn run_machine(budget: usize, n: usize, sheet: &mut [u8]) -> Marks
+fn run_machine(budget: usize, n: usize, sheet: &mut [u8]) -> Option<Made>
     requires { (short_word1980 < n) × (n ≤ word_limit1980) × Sheet n sheet.old }
     ensures { joined result sheet.new ≡ run budget n sheet.old }
 {
-    match suffix1980::remove_suffixes(budget, n, sheet) {
-        suffix1980::Ran::Out => Marks::Out,
-        suffix1980::Ran::Stopped { left, finale } => run_on(budget, left, finale, n, sheet),
-    }
+    let stopped = suffix1980::remove_suffixes(budget, n, sheet)?;
+    run_on(budget, stopped.left, stopped.next, n, sheet)
 }
 
 // Does a hyphen show before letter k?
@@ -96,15 +90,6 @@ fn is_shown(finale: usize, sheet: &[u8], k: usize) -> bool
     finale < at
 }
 
-fn bit_of(shown: bool) -> u8
-    ensures { result ≡ bit shown }
-{
-    if shown {
-        return 1;
-    }
-    0
-}
-
 // The hyphens that show, put into a room as breaks.
 fn put_breaks(n: usize, finale: usize, sheet: &[u8], room: &mut [u8])
     requires { (n ≤ word_limit1980) × (room_size1980 ≤ length room.old) }
@@ -113,51 +98,53 @@ fn put_breaks(n: usize, finale: usize, sheet: &[u8], room: &mut [u8])
     rooms::clear_from(room, 0, base::ROOM_SIZE_1980);
     let mut gap = FIRST_GAP;
     while gap + LAST_LETTERS <= n {
-        room[gap] = bit_of(is_shown(finale, sheet, gap + 1));
+        room[gap] = u8::from(is_shown(finale, sheet, gap + 1));
         gap += 1;
     }
 }
 
 // What is found of a judged word of more than four letters in a judged room, on a sheet of its size. The room is written at the end.
-fn reprint_on(budget: usize, word: &[u8], sheet: &mut [u8], room: &mut [u8]) -> Result<Option<Reprint>, Ground>
+fn reprint_on(budget: usize, word: &[u8], sheet: &mut [u8], room: &mut [u8]) -> Option<Reprint>
     requires { (judge_letters word_limit1980 word.now ≡ Ok tt) × (short_word1980 < length word.now) × (length sheet.old ≡ length word.now + 2) × (room_size1980 ≤ length room.old) }
-    ensures { Answered budget word.now room.old result room.new }
+    ensures { Answered budget word.now room.old (Ok result) room.new }
 {
     let n = word.len();
     sheet1980::write_word(word, sheet);
-    match run_machine(budget, n, sheet) {
-        Marks::Out => Ok(None),
-        Marks::Made { finale, executed } => {
-            put_breaks(n, finale, sheet, room);
-            let breaks = rooms::count_marks(room, base::ROOM_SIZE_1980);
-            Ok(Some(Reprint { breaks, executed }))
-        }
-    }
+    let made = run_machine(budget, n, sheet)?;
+    put_breaks(n, made.finale, sheet, room);
+    Some(Reprint {
+        breaks: rooms::count_marks(room, base::ROOM_SIZE_1980),
+        executed: made.executed,
+    })
 }
 
 // What is found of a judged word in a judged room.
-fn find_breaks(budget: usize, word: &[u8], room: &mut [u8]) -> Result<Option<Reprint>, Ground>
+fn find_breaks(budget: usize, word: &[u8], room: &mut [u8]) -> Option<Reprint>
     requires { (judge_letters word_limit1980 word.now ≡ Ok tt) × (room_size1980 ≤ length room.old) }
-    ensures { Answered budget word.now room.old result room.new }
+    ensures { Answered budget word.now room.old (Ok result) room.new }
 {
     let n = word.len();
     if n <= base::SHORT_WORD_1980 {
         rooms::clear_from(room, 0, base::ROOM_SIZE_1980);
-        return Ok(Some(Reprint {
+        return Some(Reprint {
             breaks: 0,
             executed: 0,
-        }));
+        });
     }
     let mut codes = [0u8; SHEET_SIZE];
     reprint_on(budget, word, &mut codes[0..n + 2], room)
 }
 
 // The call under a budget.
-pub fn hyphenate_within(budget: usize, word: &[u8], room: &mut [u8]) -> Result<Option<Reprint>, Ground>
+pub fn hyphenate_within(
+    budget: usize,
+    word: &[u8],
+    room: &mut [u8],
+) -> Result<Option<Reprint>, Ground>
     ensures { Reprints budget word.now room.old result room.new }
 {
     judge_1980(word, room.len())?;
-    find_breaks(budget, word, room)
+    Ok(find_breaks(budget, word, room))
 }
 
 // The call.

@@ -9,7 +9,7 @@ use lib.ListN.{get_or}
 use Rattle.base.proofs.Lists.{never, both}
 use Rattle.tables1980.specs.Pairs.{pair_words, btable}
 use Rattle.tables1980.proofs.Table.{every, at}
-use Rattle.tables1980.proofs.Laws.{pair_before, pair_in, pair_past}
+use Rattle.tables1980.proofs.Readers.{pair_before, pair_in, pair_past}
 use Rattle.middle1980.specs.Middles.{joins_h, with_h}
 
 -- a row's number is its code less 2: no letter before c nor behind t

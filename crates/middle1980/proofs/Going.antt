@@ -1,11 +1,11 @@
 -- The loop over the labels: one law for each way through it.
-use Prim.Native.Nat.{ℕ, zero, suc, ◌+◌, ◌-◌, ◌<◌, ◌≤◌}
+use Prim.Native.Nat.{ℕ, zero, suc, ◌-◌, ◌<◌, ◌≤◌}
 use mathlib.Core.List.{List}
 use mathlib.Core.Path.{◌≡◌, refl, sym, ◌∙◌, ap, subst}
 use native.Mathlib.Omega.{arith}
-use Rattle.sheet1980.specs.Sheet.{u, Sheet}
+use Rattle.sheet1980.specs.Sheet.{Sheet}
 use Rattle.middle1980.specs.Middles.{Middle, Goto, Phase5, onward, middles, enough, sheet_in, phase4}
-use Rattle.middle1980.specs.Joined.{joined, Place, Placed}
+use Rattle.middle1980.specs.Joined.{joined, Placed}
 use Rattle.middle1980.specs.declared.Label.{Label}
 use Rattle.middle1980.specs.declared.Label.TheVariants.{Marki, Phase4c, Vowelscan, Checkc, Phase4v, Phase4vc, Ertest}
 use Rattle.middle1980.specs.declared.Step.{Step}
@@ -62,24 +62,9 @@ unfolding steps_left
 left_less n m (step.Goto label i b c) sheet f = omega (arith, f.2)
 left_less n m step.Phase5 sheet f = omega arith
 
-place_low : (n : ℕ) (label : Label) (i c : ℕ) → Place n label i c → (1 ≤ i) × (i ≤ u + n + 2)
-place_low n Marki i c p = (omega (arith, p.0), omega (arith, p.1))
-place_low n Phase4c i c p = (omega (arith, p.0), omega (arith, p.1))
-place_low n Vowelscan i c p = (omega (arith, p.0), omega (arith, p.1))
-place_low n Checkc i c p = (omega (arith, p.0), omega (arith, p.1))
-place_low n Phase4v i c p = (omega (arith, p.0), omega (arith, p.1))
-place_low n Phase4vc i c p = (omega (arith, p.0), omega (arith, p.1))
-place_low n Ertest i c p = (omega (arith, p.0), omega (arith, p.1))
-
 module _ (finale n : ℕ) (whole : Middle) (label : Label) (i b c : ℕ) (sheet : List ℕ) (at : Step) (e : at ≡ step.Goto label i b c) (g : Going finale n whole at sheet) where
   here : Fine n g.steps (Goto label i b c sheet)
   here = subst (λ (x : Step). Fine n g.steps (joined x sheet)) e g.fine
-
-  pub low : 1 ≤ i
-  low = (place_low n label i c here.1).0
-
-  pub high : i ≤ u + n + 2
-  high = (place_low n label i c here.1).1
 
   goal : (next : Step) (after : List ℕ) → joined next after ≡ onward finale label i b c sheet → Fine n (to_come n label i) (joined next after)
   goal next after k = subst (λ (x : Middle). Fine n (to_come n label i) x) (sym k) (onward_fine n finale label i b c sheet here.0 here.1)

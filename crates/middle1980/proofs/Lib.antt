@@ -1,4 +1,3 @@
 pub mod Ends
 pub mod Aspirates
-pub mod Laws
 pub mod Going

@@ -22,7 +22,7 @@ pub enum Label {
     Ertest,
 }
 
-// Where to go: to a label with i, b and c, or to phase 5.
+// Where to go: to a label with i, b and c, or to phase 5. (d) Phase 5 is one more of 004's places, so that None would hide its name.
 #[derive(Clone, Copy)]
 pub enum Step {
     Goto {
@@ -62,12 +62,14 @@ const LETTER_U: u8 = 21;
 // The row of the pair table from which on the weak letters stand.
 const WEAK_ROWS: u8 = 26;
 
+#[tactic(auto, unfolding(crate::specs::Middles::joins_h))]
 fn joins_h(c: u8) -> bool
     ensures { result ≡ joins_h c }
 {
     pair_word(c) % 8 != 0
 }
 
+#[tactic(auto, using(crate::proofs::Aspirates::joins_rows), unfolding(crate::specs::Middles::with_h))]
 fn with_h(c: u8) -> u8
     requires { joins_h c ≡ true }
     ensures { result ≡ with_h c }
@@ -76,6 +78,7 @@ fn with_h(c: u8) -> u8
     c + h - 2
 }
 
+#[tactic(auto, unfolding(crate::specs::Middles::is_pair))]
 fn is_pair(b: u8, c: u8) -> bool
     requires { 1 ≤ c }
     ensures { result ≡ is_pair b c }
@@ -83,6 +86,7 @@ fn is_pair(b: u8, c: u8) -> bool
     has_bit(pair_word(b), c - 1)
 }
 
+#[tactic(auto, unfolding(crate::specs::Middles::is_weak))]
 fn is_weak(b: u8, c: u8) -> bool
     requires { 1 ≤ c }
     ensures { result ≡ is_weak b c }
@@ -92,242 +96,215 @@ fn is_weak(b: u8, c: u8) -> bool
 }
 
 // ll or ss.
+#[tactic(auto, unfolding(crate::specs::Middles::liquid))]
 fn go_liquid(i: usize, b: u8, sheet: &[u8]) -> Step
     requires { i ≤ place_bound }
     ensures { joined result sheet.now ≡ liquid i b sheet.now }
 {
     let c = code_at(sheet, i + 1);
     if c == 0 {
-        return Step::Phase5;
-    }
-    if is_vowel(c) {
-        return Step::Goto {
+        Step::Phase5
+    } else if is_vowel(c) {
+        Step::Goto {
             label: Label::Ertest,
             i,
             b,
             c,
-        };
-    }
-    Step::Goto {
-        label: Label::Phase4c,
-        i: i + 2,
-        b,
-        c,
+        }
+    } else {
+        Step::Goto {
+            label: Label::Phase4c,
+            i: i + 2,
+            b,
+            c,
+        }
     }
 }
 
 // A double consonant.
+#[tactic(auto, unfolding(crate::specs::Middles::doubled))]
 fn go_doubled(i: usize, b: u8, c: u8, sheet: &[u8]) -> Step
     requires { i ≤ place_bound }
     ensures { joined result sheet.now ≡ doubled i b c sheet.now }
 {
-    if c == LETTER_L {
-        return go_liquid(i, b, sheet);
-    }
-    if c == LETTER_S {
-        return go_liquid(i, b, sheet);
-    }
-    Step::Goto {
-        label: Label::Marki,
-        i,
-        b,
-        c,
+    if c == LETTER_L || c == LETTER_S {
+        go_liquid(i, b, sheet)
+    } else {
+        Step::Goto {
+            label: Label::Marki,
+            i,
+            b,
+            c,
+        }
     }
 }
 
+#[tactic(auto, unfolding(crate::specs::Middles::ends_in_age))]
 fn ends_in_age(finale: usize, i: usize, sheet: &[u8]) -> bool
     requires { i ≤ place_bound }
     ensures { result ≡ ends_in_age finale i sheet.now }
 {
-    if code_at(sheet, i + 1) != LETTER_A {
-        return false;
-    }
-    if code_at(sheet, i + 2) != LETTER_G {
-        return false;
-    }
-    finale == i + 3
+    code_at(sheet, i + 1) == LETTER_A && code_at(sheet, i + 2) == LETTER_G && finale == i + 3
 }
 
+#[tactic(auto, unfolding(crate::specs::Middles::ends_in_est))]
 fn ends_in_est(i: usize, sheet: &[u8]) -> bool
     requires { i ≤ place_bound }
     ensures { result ≡ ends_in_est i sheet.now }
 {
-    if code_at(sheet, i + 1) != LETTER_E {
-        return false;
-    }
-    if code_at(sheet, i + 2) != LETTER_S {
-        return false;
-    }
-    code_at(sheet, i + 3) == LETTER_T
+    code_at(sheet, i + 1) == LETTER_E
+        && code_at(sheet, i + 2) == LETTER_S
+        && code_at(sheet, i + 3) == LETTER_T
 }
 
 // A weak pair.
+#[tactic(auto, unfolding(crate::specs::Middles::weakly))]
 fn go_weakly(finale: usize, i: usize, b: u8, c: u8, sheet: &[u8]) -> Step
     requires { i ≤ place_bound }
     ensures { joined result sheet.now ≡ weakly finale i b c sheet.now }
 {
-    if code_at(sheet, i + 4) != 0 {
-        return Step::Goto {
+    if code_at(sheet, i + 4) == 0 && (ends_in_age(finale, i, sheet) || ends_in_est(i, sheet)) {
+        Step::Phase5
+    } else {
+        Step::Goto {
             label: Label::Ertest,
             i,
             b,
             c,
-        };
-    }
-    if ends_in_age(finale, i, sheet) {
-        return Step::Phase5;
-    }
-    if ends_in_est(i, sheet) {
-        return Step::Phase5;
-    }
-    Step::Goto {
-        label: Label::Ertest,
-        i,
-        b,
-        c,
+        }
     }
 }
 
 // A pair before the vowel at j.
+#[tactic(auto, unfolding(crate::specs::Middles::paired))]
 fn go_paired(finale: usize, j: usize, b: u8, c: u8, sheet: &[u8]) -> Step
     requires { (1 ≤ j) × (j ≤ place_bound) × (1 ≤ c) }
     ensures { joined result sheet.now ≡ paired finale j b c sheet.now }
 {
     if is_weak(b, c) {
-        return go_weakly(finale, j - 1, b, c, sheet);
-    }
-    Step::Goto {
-        label: Label::Phase4v,
-        i: j + 1,
-        b,
-        c,
+        go_weakly(finale, j - 1, b, c, sheet)
+    } else {
+        Step::Goto {
+            label: Label::Phase4v,
+            i: j + 1,
+            b,
+            c,
+        }
     }
 }
 
 // Vowel, consonant, consonant, vowel.
+#[tactic(auto, unfolding(crate::specs::Middles::between))]
 fn go_between(finale: usize, i: usize, j: usize, b: u8, c: u8, sheet: &[u8]) -> Step
     requires { (1 ≤ j) × (j ≤ place_bound) × (1 ≤ c) }
     ensures { joined result sheet.now ≡ between finale i j b c sheet.now }
 {
     if is_pair(b, c) {
-        return go_paired(finale, j, b, c, sheet);
-    }
-    Step::Goto {
-        label: Label::Marki,
-        i,
-        b,
-        c,
+        go_paired(finale, j, b, c, sheet)
+    } else {
+        Step::Goto {
+            label: Label::Marki,
+            i,
+            b,
+            c,
+        }
     }
 }
 
 // A vowel is wanted at j.
+#[tactic(auto, unfolding(crate::specs::Middles::third))]
 fn go_third(finale: usize, i: usize, j: usize, b: u8, c: u8, sheet: &[u8]) -> Step
     requires { (1 ≤ j) × (j ≤ place_bound) × (1 ≤ c) }
     ensures { joined result sheet.now ≡ third finale i j b c sheet.now }
 {
     let d = code_at(sheet, j);
     if d == 0 {
-        return Step::Phase5;
+        Step::Phase5
+    } else if is_vowel(d) {
+        go_between(finale, i, j, b, c, sheet)
+    } else {
+        Step::Goto {
+            label: Label::Phase4c,
+            i: j + 1,
+            b,
+            c,
+        }
     }
-    if is_vowel(d) {
-        return go_between(finale, i, j, b, c, sheet);
-    }
-    Step::Goto {
-        label: Label::Phase4c,
-        i: j + 1,
-        b,
-        c,
-    }
-}
-
-// Do two codes hold these two letters?
-fn are(x: u8, first: u8, y: u8, second: u8) -> bool
-    ensures { result ≡ (eqb x first && eqb y second) }
-{
-    if x != first {
-        return false;
-    }
-    y == second
 }
 
 // Is a letter joined with what stands behind it?
 fn joins(c: u8, next: u8) -> bool
     ensures { result ≡ (eqb next (o "h") && joins_h c) }
 {
-    if next != LETTER_H {
-        return false;
-    }
-    joins_h(c)
+    next == LETTER_H && joins_h(c)
 }
 
 // The second consonant, joined with an h or not.
+#[tactic(auto, using(crate::proofs::Aspirates::with_h_some), unfolding(crate::specs::Middles::second))]
 fn go_second(finale: usize, i: usize, b: u8, c: u8, sheet: &[u8]) -> Step
     requires { (i + 2 ≤ place_bound) × (1 ≤ c) }
     ensures { joined result sheet.now ≡ second finale i b c sheet.now }
 {
     if joins(c, code_at(sheet, i + 1)) {
-        return go_third(finale, i, i + 2, b, with_h(c), sheet);
+        go_third(finale, i, i + 2, b, with_h(c), sheet)
+    } else {
+        go_third(finale, i, i + 1, b, c, sheet)
     }
-    go_third(finale, i, i + 1, b, c, sheet)
 }
 
 // A consonant b behind a vowel and the letter c behind it.
+#[tactic(auto, using(sheet1980::proofs::Sheets::consonant), unfolding(crate::specs::Middles::pair))]
 fn go_pair(finale: usize, i: usize, b: u8, c: u8, sheet: &[u8]) -> Step
     requires { (1 ≤ i) × (i + 2 ≤ place_bound) }
     ensures { joined result sheet.now ≡ pair finale i b c sheet.now }
 {
-    if are(b, LETTER_Q, c, LETTER_U) {
-        return Step::Goto {
+    if b == LETTER_Q && c == LETTER_U {
+        Step::Goto {
             label: Label::Marki,
             i: i - 1,
             b,
             c,
-        };
-    }
-    if is_vowel(c) {
-        return Step::Goto {
+        }
+    } else if is_vowel(c) {
+        Step::Goto {
             label: Label::Checkc,
             i: i + 1,
             b,
             c,
-        };
-    }
-    if b == c {
-        return go_doubled(i, b, c, sheet);
-    }
-    if joins(b, c) {
-        return Step::Goto {
+        }
+    } else if b == c {
+        go_doubled(i, b, c, sheet)
+    } else if joins(b, c) {
+        Step::Goto {
             label: Label::Phase4vc,
             i: i + 1,
             b: with_h(b),
             c,
-        };
-    }
-    if are(c, LETTER_K, b, LETTER_C) {
-        return Step::Goto {
+        }
+    } else if c == LETTER_K && b == LETTER_C {
+        Step::Goto {
             label: Label::Marki,
             i: i + 1,
             b,
             c,
-        };
+        }
+    } else {
+        go_second(finale, i, b, c, sheet)
     }
-    go_second(finale, i, b, c, sheet)
 }
 
+#[tactic(auto, unfolding(crate::specs::Middles::ends_in_er))]
 fn ends_in_er(i: usize, sheet: &[u8]) -> bool
     requires { i ≤ place_bound }
     ensures { result ≡ ends_in_er i sheet.now }
 {
-    if code_at(sheet, i + 1) != LETTER_E {
-        return false;
-    }
-    if code_at(sheet, i + 2) != LETTER_R {
-        return false;
-    }
-    code_at(sheet, i + 3) == 0
+    code_at(sheet, i + 1) == LETTER_E
+        && code_at(sheet, i + 2) == LETTER_R
+        && code_at(sheet, i + 3) == 0
 }
 
 // A hyphen before the letter at i.
+#[tactic(auto, unfolding(crate::specs::Middles::mark_at))]
 fn go_marki(i: usize, b: u8, sheet: &mut [u8]) -> Step
     requires { i ≤ place_bound }
     ensures { joined result sheet.new ≡ mark_at i b sheet.old }
@@ -346,21 +323,19 @@ fn go_marki(i: usize, b: u8, sheet: &mut [u8]) -> Step
 }
 
 // Vowels up to a consonant.
+#[tactic(auto, unfolding(crate::specs::Middles::pass_vowel))]
 fn go_vowel(i: usize, c: u8, sheet: &[u8]) -> Step
     requires { i ≤ place_bound }
     ensures { joined result sheet.now ≡ pass_vowel i c sheet.now }
 {
     let b = code_at(sheet, i);
-    if is_vowel(b) {
-        return Step::Goto {
-            label: Label::Checkc,
-            i: i + 1,
-            b,
-            c: b,
-        };
-    }
+    let (label, c) = if is_vowel(b) {
+        (Label::Checkc, b)
+    } else {
+        (Label::Phase4vc, c)
+    };
     Step::Goto {
-        label: Label::Phase4vc,
+        label,
         i: i + 1,
         b,
         c,
@@ -368,20 +343,18 @@ fn go_vowel(i: usize, c: u8, sheet: &[u8]) -> Step
 }
 
 // Consonants up to a vowel.
+#[tactic(auto, unfolding(crate::specs::Middles::scan_vowel))]
 fn go_vowelscan(i: usize, b: u8, c: u8) -> Step
     requires { i ≤ place_bound }
     ensures { Joins result (scan_vowel i b c) }
 {
-    if is_vowel(c) {
-        return Step::Goto {
-            label: Label::Checkc,
-            i: i + 1,
-            b,
-            c,
-        };
-    }
+    let label = if is_vowel(c) {
+        Label::Checkc
+    } else {
+        Label::Phase4c
+    };
     Step::Goto {
-        label: Label::Phase4c,
+        label,
         i: i + 1,
         b,
         c,
@@ -389,6 +362,7 @@ fn go_vowelscan(i: usize, b: u8, c: u8) -> Step
 }
 
 // From a label to the next.
+#[tactic(auto, unfolding(crate::specs::Middles::onward))]
 fn go_onward(finale: usize, label: Label, i: usize, b: u8, c: u8, sheet: &mut [u8]) -> Step
     requires { (1 ≤ i) × (i + 2 ≤ place_bound) }
     ensures { joined result sheet.new ≡ onward finale label i b c sheet.old }
@@ -402,30 +376,22 @@ fn go_onward(finale: usize, label: Label, i: usize, b: u8, c: u8, sheet: &mut [u
             c: code_at(sheet, i),
         },
         Label::Vowelscan => go_vowelscan(i, b, c),
-        Label::Checkc => {
-            if c == 0 {
-                return Step::Phase5;
-            }
-            Step::Goto {
-                label: Label::Phase4v,
-                i,
-                b,
-                c,
-            }
-        }
+        Label::Checkc if c == 0 => Step::Phase5,
+        Label::Checkc => Step::Goto {
+            label: Label::Phase4v,
+            i,
+            b,
+            c,
+        },
         Label::Phase4v => go_vowel(i, c, sheet),
         Label::Phase4vc => go_pair(finale, i, b, code_at(sheet, i), sheet),
-        Label::Ertest => {
-            if ends_in_er(i, sheet) {
-                return Step::Phase5;
-            }
-            Step::Goto {
-                label: Label::Marki,
-                i,
-                b,
-                c,
-            }
-        }
+        Label::Ertest if ends_in_er(i, sheet) => Step::Phase5,
+        Label::Ertest => Step::Goto {
+            label: Label::Marki,
+            i,
+            b,
+            c,
+        },
     }
 }
 
@@ -435,14 +401,7 @@ pub fn mark_middle(finale: usize, n: usize, from: Step, sheet: &mut [u8])
     ensures { sheet.new ≡ phase4 n finale (joined from sheet.old) }
 {
     let mut step = from;
-    loop {
-        match step {
-            Step::Phase5 => {
-                return;
-            }
-            Step::Goto { label, i, b, c } => {
-                step = go_onward(finale, label, i, b, c, sheet);
-            }
-        }
+    while let Step::Goto { label, i, b, c } = step {
+        step = go_onward(finale, label, i, b, c, sheet);
     }
 }

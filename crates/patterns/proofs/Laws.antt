@@ -7,12 +7,24 @@ use native.Mathlib.Omega.{arith}
 use borrow.Author.Tests.{eq-eqb, ne_eqb, eqb-true}
 use lib.Dec.{eqb}
 use lib.ListN.{length, get_or, drop, drop_of_length-le}
+use Rattle.std.specs.Prelude.{map, filter, not}
 use Rattle.base.proofs.Lists.{cons_at, never}
 use Rattle.words.specs.Symbols.{small, digit, symbol_of, symbols_of}
 use Rattle.words.proofs.Laws.{small_not_digit, other_symbol, digit_not_dot, digit_not_apostrophe, symbols_skip, symbols_keep}
 use Rattle.liang.specs.Patterns.{levels_from}
 use Rattle.patterns.specs.Common.{common}
 use Rattle.patterns.specs.Post.{Parts}
+
+-- a line's symbols, byte by byte
+pub symbols_chain : (l : List ℕ) → symbols_of l ≡ filter (λ s. not (eqb s 0)) (map symbol_of l)
+unfolding symbols_of
+symbols_chain [] = refl
+symbols_chain (b ∷ l) = go (eqb (symbol_of b) 0) (symbols_chain l)
+  where
+    go : (z : Bool) → symbols_of l ≡ filter (λ s. not (eqb s 0)) (map symbol_of l)
+        → cond z (symbols_of l) (symbol_of b ∷ symbols_of l) ≡ cond (not z) (symbol_of b ∷ filter (λ s. not (eqb s 0)) (map symbol_of l)) (filter (λ s. not (eqb s 0)) (map symbol_of l))
+    go true e = e
+    go false e = ap (λ (r : List ℕ). symbol_of b ∷ r) e
 
 -- what is left of a line's symbols
 module _ (l : List ℕ) (i : ℕ) {s : ℕ} (h : i < length l) (p : s ≡ symbol_of (get_or l i 0)) where
@@ -48,6 +60,11 @@ module _ (l : List ℕ) (i level : ℕ) (h : i < length l) where
 pub levels_end : (l : List ℕ) (i level : ℕ) → length l ≤ i → levels_from level (drop i l) ≡ level ∷ []
 unfolding levels_from
 levels_end l i level h = rw (drop_of_length-le l h)
+
+-- the ways through the loops over what is left of a line
+pub ruleset rest_of_symbols = (rest_skip, rest_keep, rest_end, get_d_pred)
+
+pub ruleset rest_of_levels = (levels_digit, levels_symbol, levels_other, levels_end, get_d_pred)
 
 -- a digit is no symbol
 pub digit_symbol : (b : ℕ) → digit b ≡ true → eqb (symbol_of b) 0 ≡ true

@@ -13,30 +13,24 @@ ghost use Rattle.patterns.specs.Next.{next_mask};
 pub const MASK_SIZE: usize = base::SYMBOL_LIMIT as usize + 1;
 
 // How many symbols a line has.
+#[tactic(auto, using(crate::proofs::Laws::symbols_chain))]
 pub fn symbol_count(line: &[u8]) -> usize
     ensures { result ≡ length (symbols_of line.now) }
 {
-    let mut count: usize = 0;
-    let mut i = 0;
-    while i < line.len() {
-        let s = words::symbol_of(line[i]);
-        i += 1;
-        if s != 0 {
-            count += 1;
-        }
-    }
-    count
+    line.iter()
+        .map(|b| words::symbol_of(*b))
+        .filter(|s| *s != 0)
+        .count()
 }
 
 // A line's symbol by its number, from 0; 0 where there is none.
+#[tactic(auto, using(crate::proofs::Laws::rest_of_symbols))]
 pub fn symbol_at(line: &[u8], number: usize) -> u8
     ensures { result ≡ get_or (symbols_of line.now) number 0 }
 {
     let mut left = number;
-    let mut i = 0;
-    while i < line.len() {
-        let s = words::symbol_of(line[i]);
-        i += 1;
+    for b in line {
+        let s = words::symbol_of(*b);
         if s != 0 {
             if left == 0 {
                 return s;
@@ -48,25 +42,21 @@ pub fn symbol_at(line: &[u8], number: usize) -> u8
 }
 
 // The level of a pattern's gap with so many symbols before it; 0 where there is none.
+#[tactic(auto, using(crate::proofs::Laws::rest_of_levels))]
 pub fn level_at(line: &[u8], gap: usize) -> u8
     ensures { result ≡ get_or (levels_from 0 line.now) gap 0 }
 {
     let mut left = gap;
     let mut level: u8 = 0;
-    let mut i = 0;
-    while i < line.len() {
-        let b = line[i];
-        i += 1;
-        if words::is_digit(b) {
-            level = digit_value(b);
-        } else {
-            if words::symbol_of(b) != 0 {
-                if left == 0 {
-                    return level;
-                }
-                left -= 1;
-                level = 0;
+    for b in line {
+        if words::is_digit(*b) {
+            level = digit_value(*b);
+        } else if words::symbol_of(*b) != 0 {
+            if left == 0 {
+                return level;
             }
+            left -= 1;
+            level = 0;
         }
     }
     if left == 0 {
@@ -96,6 +86,7 @@ pub struct Parting {
 pub fn part_lines(a: &[u8], b: &[u8]) -> Parting
     ensures { Parts (symbols_of a.now) (symbols_of b.now) result.shared result.symbol }
 {
+    // Each line goes on at its own pace, over bytes that are no symbols: one iterator, put on by hand, would read no plainer than two places.
     let mut count: usize = 0;
     let mut i = 0;
     let mut j = 0;
@@ -154,6 +145,7 @@ fn mark_symbol(mask: &mut [u8], symbol: u8)
 pub fn mark_next(own: &[u8], m: usize, text: &[u8], at: usize, mask: &mut [u8])
     ensures { mask.new ≡ next_mask m (symbols_of own.now) (map pattern_of (cut (drop at text.now))) mask.old }
 {
+    // `lines::line_end` says where the next line begins; lines cut by an iterator would end in another way than `cut` has them.
     let mut i = at;
     while i < text.len() {
         let end = lines::line_end(text, i);

@@ -38,12 +38,10 @@ fn are_usable(cells: &[u8], mask: &[u8], base: u16) -> bool
     requires { symbol_limit < length mask.now }
     ensures { result ≡ all_from (λ s. not (marked mask.now s) || is_free cells.now (base + s)) 1 symbol_limit }
 {
-    let mut symbol: u8 = 1;
-    while symbol <= base::SYMBOL_LIMIT {
+    for symbol in 1..=base::SYMBOL_LIMIT {
         if !is_usable(cells, base, symbol, mask[symbol as usize]) {
             return false;
         }
-        symbol += 1;
     }
     true
 }
@@ -53,14 +51,12 @@ fn first_marked(mask: &[u8]) -> u8
     requires { symbol_limit < length mask.now }
     ensures { (1 ≤ result) × (result ≤ symbol_limit) }
 {
-    let mut symbol: u8 = 1;
-    while symbol < base::SYMBOL_LIMIT {
+    for symbol in 1..base::SYMBOL_LIMIT {
         if mask[symbol as usize] == 1 {
             return symbol;
         }
-        symbol += 1;
     }
-    symbol
+    base::SYMBOL_LIMIT
 }
 
 // Does a base serve: no path has it, and the cells it needs are free? One symbol's cell is tried first, which decides most bases.
@@ -83,14 +79,12 @@ fn find_base(cells: &[u8], taken: &[u8], mask: &[u8]) -> u16
     ensures { result ≡ smallest (serves cells.now taken.now (marked mask.now)) 1 (cell_limit - 1) }
 {
     let first = first_marked(mask);
-    let mut base: u16 = 1;
-    while (base as usize) < base::CELL_LIMIT {
+    for base in 1..base::CELL_LIMIT as u16 {
         if is_serving(cells, taken, mask, base, first) {
             return base;
         }
-        base += 1;
     }
-    base
+    base::CELL_LIMIT as u16
 }
 
 // May a symbol with this mark have a cell numbered base + symbol at all?
@@ -108,12 +102,10 @@ fn is_inside(mask: &[u8], base: u16) -> bool
     requires { symbol_limit < length mask.now }
     ensures { result ≡ inside (marked mask.now) base }
 {
-    let mut symbol: u8 = 1;
-    while symbol <= base::SYMBOL_LIMIT {
+    for symbol in 1..=base::SYMBOL_LIMIT {
         if !is_below(base, symbol, mask[symbol as usize]) {
             return false;
         }
-        symbol += 1;
     }
     true
 }
@@ -135,13 +127,11 @@ fn put_cells(cells: &mut [u8], mask: &[u8], base: u16)
     requires { (length cells.old ≡ cell_room) × (symbol_limit < length mask.now) }
     ensures { cells.new ≡ put_cells (marked mask.now) base 1 symbol_limit cells.old }
 {
-    let mut symbol: u8 = 1;
-    while symbol <= base::SYMBOL_LIMIT {
-        let s = symbol;
-        symbol += 1;
-        if mask[s as usize] == 1 {
-            put_cell(cells, base as usize + s as usize, s);
+    for symbol in 1..=base::SYMBOL_LIMIT {
+        if mask[symbol as usize] != 1 {
+            continue;
         }
+        put_cell(cells, base as usize + symbol as usize, symbol);
     }
 }
 
@@ -152,13 +142,12 @@ pub fn cell_of(cells: &[u8], root: u16, own: &[u8], m: usize) -> usize
     ensures upper_bound { result < cell_numbers }
 {
     let mut base = root;
-    let mut i: usize = 0;
-    while i + 1 < m {
+    let last = m - 1;
+    for i in 0..last {
         let n = base as usize + patterns::symbol_at(own, i) as usize;
         base = table::number_at(cells, table::CELL_SIZE * n + 2);
-        i += 1;
     }
-    base as usize + patterns::symbol_at(own, i) as usize
+    base as usize + patterns::symbol_at(own, last) as usize
 }
 
 // A path's base as the link of its last cell. The root has none.
@@ -286,12 +275,10 @@ pub fn place_all(cells: &mut [u8], taken: &mut [u8], root: u16, text: &[u8]) -> 
     ensures placed { Placed (place_list root (patterns_of text.now) (Fits cells.old taken.old)) result cells.new taken.new }
     ensures left { Sized cells.new taken.new }
 {
-    let mut m: usize = 0;
-    while m < base::PATTERN_LIMIT {
+    for m in 0..base::PATTERN_LIMIT {
         if !place_length(cells, taken, root, m, text) {
             return false;
         }
-        m += 1;
     }
     true
 }

@@ -1,5 +1,5 @@
 -- The loop over the machine: one law for each way through it.
-use Prim.Native.Nat.{ℕ, zero, suc, ◌+◌, ◌*◌, ◌-◌, ◌<◌, ◌≤◌}
+use Prim.Native.Nat.{ℕ, zero, suc, ◌+◌, ◌*◌, ◌<◌}
 use mathlib.Core.List.{List}
 use mathlib.Core.Path.{◌≡◌, refl, sym, ◌∙◌, ap, subst}
 use native.Mathlib.Omega.{arith}
@@ -10,20 +10,21 @@ use Rattle.middle1980.specs.Joined as middle
 use Rattle.middle1980.specs.declared.Step.{Step}
 use Rattle.middle1980.specs.declared.Step.TheVariants as step
 use Rattle.prefix1980.specs.Prefixes.{Prefixes, Interpp, Stops, decode, restartp, interpp, RanOut, Stopped, prefixes, phase3}
-use Rattle.prefix1980.specs.Joined.{joined}
 use Rattle.prefix1980.specs.declared.Instruction.{Instruction}
-use Rattle.prefix1980.specs.declared.Turn.{Turn}
-use Rattle.prefix1980.specs.declared.Turn.TheVariants.{Row, Done}
+use Rattle.prefix1980.specs.declared.Row.{Row}
 use Rattle.prefix1980.proofs.Rows.{row_sound_lem}
 use Rattle.prefix1980.proofs.Ends.{Fine, Begins, cost, step_fine, begin_fine}
 
--- the machine from here on, and why it stays on the sheet
-pub record Going (budget n : ℕ) (whole : List ℕ) (left : ℕ) (turn : Turn) (sheet : List ℕ) : Type 0 where
-  pub rest : phase3 budget whole ≡ prefixes left (joined turn sheet)
-  pub bound : ℕ
-  pub fine : Fine n bound (joined turn sheet)
+abbrev at_row : Row → List ℕ → Prefixes
+at_row r sheet = Interpp r.i r.pc r.c r.j sheet
 
-pub start : (budget n : ℕ) (s : List ℕ) {c : ℕ} → Sheet n s → 4 < n → c ≡ mem s (u + 1) → Going budget n s budget (Row (u + 2) c c (u + 1)) s
+-- the machine from here on, and why it stays on the sheet
+pub record Going (budget n : ℕ) (whole : List ℕ) (left : ℕ) (row : Row) (sheet : List ℕ) : Type 0 where
+  pub rest : phase3 budget whole ≡ prefixes left (at_row row sheet)
+  pub bound : ℕ
+  pub fine : Fine n bound (at_row row sheet)
+
+pub start : (budget n : ℕ) (s : List ℕ) {c : ℕ} → Sheet n s → 4 < n → c ≡ mem s (u + 1) → Going budget n s budget (record { i = u + 2; pc = c; c = c; j = u + 1 }) s
 unfolding phase3
 start budget n s {c} k h p =
     record {
@@ -35,56 +36,40 @@ start budget n s {c} k h p =
     same : restartp (u + 2) (mem s (u + 1)) s ≡ Interpp (u + 2) c c (u + 1) s
     same = rw p
 
-ended : (left : ℕ) (x : Step) (sheet : List ℕ) → prefixes left (Stops (middle.joined x sheet)) ≡ Stopped left (middle.joined x sheet)
-unfolding prefixes
-ended zero x sheet = refl
-ended (suc left) x sheet = refl
+split : {n : ℕ} (y : Step) (sheet : List ℕ) → Begins n (middle.joined y sheet) → Sheet n sheet × Placed n y
+split (step.Goto label i b c) sheet p = p
+split step.Phase5 sheet p = (p, tt)
 
-module _ (budget n : ℕ) (whole : List ℕ) (left : ℕ) (x : Step) (sheet : List ℕ) {turn : Turn} (e : turn ≡ Done x) (g : Going budget n whole left turn sheet) where
-  pub stopped : Stopped left (middle.joined x sheet) ≡ phase3 budget whole
-  stopped = sym (g.rest ∙ ap (λ (z : Turn). prefixes left (joined z sheet)) e ∙ ended left x sheet)
-
-  begins : Begins n (middle.joined x sheet)
-  begins = (subst (λ (z : Turn). Fine n g.bound (joined z sheet)) e g.fine).0
-
-  split : (y : Step) → Begins n (middle.joined y sheet) → Sheet n sheet × Placed n y
-  split (step.Goto label i b c) p = p
-  split step.Phase5 p = (p, tt)
-
-  pub ready : Sheet n sheet × Placed n x
-  ready = split x begins
-
-pub out : (budget n : ℕ) (whole : List ℕ) (left i pc c j : ℕ) (sheet : List ℕ) {turn : Turn} → turn ≡ Row i pc c j → left ≡ 0 → Going budget n whole left turn sheet → RanOut ≡ phase3 budget whole
-unfolding prefixes
-out budget n whole left i pc c j sheet e h g =
-    sym (g.rest ∙ ap (λ (x : Turn). prefixes left (joined x sheet)) e ∙ ap (λ k. prefixes k (Interpp i pc c j sheet)) h)
-
--- where the machine stands on the sheet
-module _ (budget n : ℕ) (whole : List ℕ) (left i pc c j : ℕ) (sheet : List ℕ) (turn : Turn) (e : turn ≡ Row i pc c j) (g : Going budget n whole left turn sheet) where
-  here : Fine n g.bound (Interpp i pc c j sheet)
-  here = subst (λ (x : Turn). Fine n g.bound (joined x sheet)) e g.fine
-
-  pub high : i ≤ u + n + 1
-  high = here.1.last
-
-  pub letter : mem sheet i ≤ 26
-  letter = here.1.kept.codes i
-
-  pub turned : (next : Turn) (after : List ℕ) {w : ℕ} {x : Instruction} → (left ≡ 0 → ⊥) → w ≡ prefix pc → x ≡ decode w → joined next after ≡ interpp i c j sheet x → Going budget n whole (left - 1) next after
+module _ (budget n : ℕ) (whole : List ℕ) (left : ℕ) (r : Row) (sheet : List ℕ) (g : Going budget n whole left r sheet) where
+  pub out : left ≡ 0 → RanOut ≡ phase3 budget whole
   unfolding prefixes
-  turned next after {w} {x} h p q k =
-      record {
-        rest = g.rest
-            ∙ ap (λ (z : Turn). prefixes left (joined z sheet)) e
-            ∙ ap (λ z. prefixes z (Interpp i pc c j sheet)) less
-            ∙ ap (λ (z : Prefixes). prefixes (left - 1) z) (sym goal);
-        bound = cost n here.0 pc;
-        fine = subst (λ (z : Prefixes). Fine n (cost n here.0 pc) z) (sym goal)
-            (step_fine n here.0 i pc c j sheet here.1 (decode (prefix pc)) (row_sound_lem pc here.1.row));
-      }
-    where
-      less : left ≡ suc (left - 1)
-      less = omega (arith, h)
+  out h = sym (g.rest ∙ ap (λ k. prefixes k (at_row r sheet)) h)
 
-      goal : joined next after ≡ interpp i c j sheet (decode (prefix pc))
-      goal = k ∙ ap (λ (z : Instruction). interpp i c j sheet z) (q ∙ ap decode p)
+  -- an instruction executed
+  module _ {more w : ℕ} {x : Instruction} (less : left ≡ suc more) (p : w ≡ prefix r.pc) (q : x ≡ decode w) where
+    same : (y : Prefixes) → y ≡ interpp r.i r.c r.j sheet x → interpp r.i r.c r.j sheet (decode (prefix r.pc)) ≡ y
+    same y k = sym (k ∙ ap (λ (z : Instruction). interpp r.i r.c r.j sheet z) (q ∙ ap decode p))
+
+    rests : (y : Prefixes) → y ≡ interpp r.i r.c r.j sheet x → phase3 budget whole ≡ prefixes more y
+    unfolding prefixes
+    rests y k = g.rest ∙ ap (λ z. prefixes z (at_row r sheet)) less ∙ ap (λ (z : Prefixes). prefixes more z) (same y k)
+
+    fines : (y : Prefixes) → y ≡ interpp r.i r.c r.j sheet x → Fine n (cost n g.fine.0 r.pc) y
+    fines y k =
+        subst (λ (z : Prefixes). Fine n (cost n g.fine.0 r.pc) z) (same y k)
+        (step_fine n g.fine.0 r.i r.pc r.c r.j sheet g.fine.1 (decode (prefix r.pc)) (row_sound_lem r.pc g.fine.1.row))
+
+    pub turned : (next : Row) (after : List ℕ) → at_row next after ≡ interpp r.i r.c r.j sheet x → Going budget n whole more next after
+    turned next after k = record { rest = rests (at_row next after) k; bound = cost n g.fine.0 r.pc; fine = fines (at_row next after) k }
+
+    module _ (on : Step) (after : List ℕ) (k : Stops (middle.joined on after) ≡ interpp r.i r.c r.j sheet x) where
+      pub stopped : Stopped more (middle.joined on after) ≡ phase3 budget whole
+      unfolding prefixes
+      stopped = sym (rests (Stops (middle.joined on after)) k ∙ all more)
+        where
+          all : (k : ℕ) → prefixes k (Stops (middle.joined on after)) ≡ Stopped k (middle.joined on after)
+          all zero = refl
+          all (suc k) = refl
+
+      pub ready : Sheet n after × Placed n on
+      ready = split on after (fines (Stops (middle.joined on after)) k).0

@@ -1,10 +1,9 @@
 -- How far a run of the prefix machine can go: tests over its whole table.
 use Prim.Native.Nat.{ℕ, ◌%◌, ◌<◌, ◌≤◌}
-use mathlib.Core.Bool.{Bool, true, cond, ◌&&◌}
+use mathlib.Core.Bool.{Bool, true, ◌&&◌}
 use mathlib.Core.List.{List, [], ◌∷◌}
-use mathlib.Core.Path.{◌≡◌}
+use mathlib.Core.Path.{◌≡◌, refl}
 use native.Mathlib.Omega.{arith}
-use borrow.Author.Tests.{lt-ltb}
 use lib.Dec.{T, leb, ltb, leb→le, ltb→lt}
 use lib.ListN.{length, get_or}
 use Rattle.tables1980.specs.Prefix.{prefix_words, prefix}
@@ -12,8 +11,8 @@ use Rattle.tables1980.proofs.Targets.{prefix_rows}
 use Rattle.prefix1980.specs.Prefixes.{decode}
 use Rattle.prefix1980.specs.declared.Instruction.{Instruction}
 use Rattle.prefix1980.specs.declared.Instruction.TheVariants.{Scan, Repeat, Mark, Table, Fail, Vow, Cons, Confusion}
-use Rattle.tables1980.proofs.Table.{every, at}
-use Rattle.tables1980.proofs.Heights.{goes, goes_both, and_T, cond_true, letter_row, letter_right, inside}
+use Rattle.tables1980.proofs.Table.{every}
+use Rattle.tables1980.proofs.Heights.{goes, goes_both, and_T, run_row, row_right, letter_right}
 use Rattle.tables1980.proofs.Heights as runs
 
 pub heights : List ℕ
@@ -74,39 +73,24 @@ sound_right k Vow s = tt
 sound_right k Cons s = tt
 sound_right k Confusion s = tt
 
--- the tests over the table
+-- the test over the table
 row_sound : ℕ → ℕ → Bool
-row_sound k w = cond (ltb 0 (height k)) (sound k (decode w)) true
+row_sound k w = sound k (decode w)
 
-row_low : ℕ → ℕ → Bool
-row_low k w = leb (height k) 8
-
-tested_sound : T (every row_sound 0 prefix_words)
-unfolding prefix_words heights credits row_sound sound goes decode
-tested_sound = tt
-
-tested_low : T (every row_low 0 prefix_words)
-unfolding prefix_words heights row_low
-tested_low = tt
-
-tested_letters : T (every (letter_row heights credits) 0 prefix_words)
-unfolding prefix_words heights credits letter_row
-tested_letters = tt
-
--- a row with a height is a row of the table
-height_row : (k : ℕ) → 0 < height k → k < length prefix_words
+same : length heights ≡ length prefix_words
 unfolding heights prefix_words
-height_row k h = inside heights k h
+same = refl
+
+tested : T (every (run_row heights credits row_sound 8) 0 prefix_words)
+unfolding prefix_words heights credits run_row row_sound sound goes decode
+tested = tt
 
 pub row_sound_lem : (k : ℕ) → 0 < height k → Sound k (decode (prefix k))
 unfolding prefix row_sound
-row_sound_lem k h =
-    sound_right k (decode (prefix k))
-    (cond_true (ltb 0 (height k)) (sound k (decode (prefix k))) (at row_sound prefix_words tested_sound k (height_row k h)) (lt-ltb 0 (height k) h))
+row_sound_lem k h = sound_right k (decode (prefix k)) (row_right heights credits prefix_words row_sound 8 same tested k h).1
 
 pub row_low_lem : (k : ℕ) → 0 < height k → height k ≤ 8
-unfolding row_low
-row_low_lem k h = leb→le (height k) 8 (at row_low prefix_words tested_low k (height_row k h))
+row_low_lem k h = (row_right heights credits prefix_words row_sound 8 same tested k h).0
 
 pub letter_row_lem : (k : ℕ) → k ≤ 26 → (0 < height k) × (credit k ≡ 0)
-letter_row_lem k h = letter_right heights credits prefix_words tested_letters k (omega (arith, prefix_rows)) h
+letter_row_lem k h = letter_right heights credits prefix_words row_sound 8 same tested k (omega (arith, prefix_rows)) h

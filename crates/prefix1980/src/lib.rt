@@ -5,12 +5,14 @@ ghost use Rattle.std.specs.Prelude.{◌≡◌, cond, ◌+◌, ◌-◌, ◌<◌, 
 ghost use Rattle.base.specs.Limits.{word_limit1980, short_word1980};
 ghost use Rattle.tables1980.specs.Words.{◌ε◌};
 ghost use Rattle.sheet1980.specs.Sheet.{place_bound, mem, clear, Sheet};
+ghost use Rattle.middle1980.specs.declared.Step.TheVariants as step;
 ghost use Rattle.prefix1980.specs.Prefixes.{decode, reenter, interpp, phase3};
 ghost use Rattle.prefix1980.specs.Joined.{joined, told, Ready};
 
 use middle1980::{Label, Step};
-use sheet1980::{clear_at, code_at};
-use tables1980::{has_bit, prefix_table, prefix_word};
+use sheet1980::{Stopped, U, clear_at, code_at};
+use std::ops::ControlFlow::{self, Break, Continue};
+use tables1980::{has_bit, prefix_table, word_at};
 
 // An instruction word taken apart: operand, truex and falsex, as far as its opcode uses them; a table's whole word.
 #[derive(Clone, Copy)]
@@ -25,69 +27,56 @@ pub enum Instruction {
     Confusion,
 }
 
-// Where the machine goes: on to a row, or out of it to a label of phase 4 or to phase 5.
+// The machine's registers at a row.
 #[derive(Clone, Copy)]
-pub enum Turn {
-    Row {
-        i: usize,
-        pc: usize,
-        c: u8,
-        j: usize,
-    },
-    Done(Step),
+pub struct Row {
+    pub i: usize,
+    pub pc: usize,
+    pub c: u8,
+    pub j: usize,
 }
 
-// What it comes to: the budget is used up and one more instruction needed; or what is left of it, and where to go on.
-#[derive(Clone, Copy)]
-pub enum Ran {
-    Out,
-    Stopped { left: usize, step: Step },
+impl Row {
+    // On to a label of phase 4; its register b isn't in use yet.
+    fn to(self, label: Label) -> Step
+        ensures { result ≡ step.Goto label self.i 0 self.c }
+    {
+        Step::Goto {
+            label,
+            i: self.i,
+            b: 0,
+            c: self.c,
+        }
+    }
 }
+
+// Where the machine goes: on to a row, or out of it to a label of phase 4 or to phase 5.
+pub type Turn = ControlFlow<Step, Row>;
 
 // How many bits stand before the letters in a table's word.
 const LETTERS_AT: u8 = 9;
 
-fn take_apart(w: u64) -> Instruction
-    ensures { result ≡ decode w }
-{
-    let opcode = w >> 27;
-    let t = (w % 512) as u16;
-    if opcode == 0 {
-        return Instruction::Scan {
-            t,
-            truex: ((w >> 18) % 512) as u16,
-            falsex: ((w >> 9) % 512) as u16,
-        };
-    }
-    if opcode == 6 {
-        return Instruction::Repeat { t };
-    }
-    if opcode == 8 {
-        return Instruction::Mark { t };
-    }
-    if opcode == 2 {
-        return Instruction::Table { letters: w };
-    }
-    if opcode == 5 {
-        return Instruction::Fail;
-    }
-    if opcode == 4 {
-        return Instruction::Vow;
-    }
-    if opcode == 7 {
-        return Instruction::Cons;
-    }
-    Instruction::Confusion
-}
+#[tactic(auto, unfolding(crate::specs::Prefixes::decode))]
+impl From<u64> for Instruction {
+    ghost from_gives = { λ w x. x ≡ decode w };
 
-// So many places back, at most to 0.
-fn back(i: usize, t: u16) -> usize
-    ensures { result ≡ i - t }
-{
-    if i < t as usize {
-        return 0;
+    fn from(w: u64) -> Self {
+        let t = (w % 512) as u16;
+        match w >> 27 {
+            0 => Instruction::Scan {
+                t,
+                truex: ((w >> 18) % 512) as u16,
+                falsex: ((w >> 9) % 512) as u16,
+            },
+            2 => Instruction::Table { letters: w },
+            4 => Instruction::Vow,
+            5 => Instruction::Fail,
+            6 => Instruction::Repeat { t },
+            7 => Instruction::Cons,
+            8 => Instruction::Mark { t },
+            _ => Instruction::Confusion,
+        }
     }
-    i - t as usize
 }
 
 // Is the letter at a place one of a table's?
@@ -105,123 +94,92 @@ fn reenter_at(i: usize, sheet: &mut [u8]) -> Turn
 {
     let c = code_at(sheet, i - 1);
     clear_at(sheet, i - 1);
-    Turn::Row {
+    Continue(Row {
         i,
         pc: c as usize,
         c,
         j: i - 1,
-    }
+    })
 }
 
 // The hyphen of a mark with its operand.
 fn mark_back(t: u16, i: usize, sheet: &mut [u8])
     ensures { sheet.new ≡ cond (eqb t 0) sheet.old (clear sheet.old (i - t)) }
 {
-    if t == 0 {
-        return;
+    if t != 0 {
+        clear_at(sheet, i.saturating_sub(t as usize));
     }
-    clear_at(sheet, back(i, t));
 }
 
 // One instruction.
-fn interpret(i: usize, c: u8, j: usize, sheet: &mut [u8], x: Instruction) -> Turn
-    requires { (i ≤ place_bound) × (mem sheet.old i ≤ 26) }
-    ensures { joined result sheet.new ≡ interpp i c j sheet.old x }
+#[tactic(auto, unfolding(crate::specs::Prefixes::interpp))]
+fn interpret(at: Row, sheet: &mut [u8], x: Instruction) -> Turn
+    requires { (at.i ≤ place_bound) × (mem sheet.old at.i ≤ 26) }
+    ensures { joined result sheet.new ≡ interpp at.i at.c at.j sheet.old x }
 {
     match x {
         Instruction::Scan { t, truex, falsex } => {
-            if code_at(sheet, i) as u16 % 32 == t % 32 {
-                return Turn::Row {
-                    i: i + 1,
-                    pc: truex as usize,
-                    c,
-                    j,
-                };
-            }
-            Turn::Row {
+            let matched = code_at(sheet, at.i) as u16 % 32 == t % 32;
+            let (i, pc) = if matched {
+                (at.i + 1, truex)
+            } else {
+                (at.i, falsex)
+            };
+            Continue(Row {
                 i,
-                pc: falsex as usize,
-                c,
-                j,
-            }
+                pc: pc as usize,
+                ..at
+            })
         }
         Instruction::Repeat { t } => {
-            let behind = back(i, t) + 1;
+            let behind = at.i.saturating_sub(t as usize) + 1;
             if code_at(sheet, behind) == 0 {
-                return Turn::Done(Step::Phase5);
+                Break(Step::Phase5)
+            } else {
+                reenter_at(behind, sheet)
             }
-            reenter_at(behind, sheet)
         }
         Instruction::Mark { t } => {
-            mark_back(t, i, sheet);
-            Turn::Done(Step::Goto {
-                label: Label::Marki,
-                i,
-                b: 0,
-                c,
-            })
+            mark_back(t, at.i, sheet);
+            Break(at.to(Label::Marki))
         }
-        Instruction::Table { letters } => {
-            if is_in_table(sheet, i, letters) {
-                return Turn::Done(Step::Goto {
-                    label: Label::Marki,
-                    i,
-                    b: 0,
-                    c,
-                });
-            }
-            Turn::Done(Step::Goto {
-                label: Label::Vowelscan,
-                i: j,
-                b: 0,
-                c,
-            })
-        }
-        Instruction::Fail => Turn::Done(Step::Phase5),
-        Instruction::Vow => Turn::Done(Step::Goto {
-            label: Label::Phase4v,
-            i,
+        Instruction::Table { letters } if is_in_table(sheet, at.i, letters) => Break(at.to(
+            Label::Marki,
+        )),
+        Instruction::Table { .. } => Break(Step::Goto {
+            label: Label::Vowelscan,
+            i: at.j,
             b: 0,
-            c,
+            c: at.c,
         }),
-        Instruction::Cons => Turn::Done(Step::Goto {
-            label: Label::Phase4c,
-            i,
-            b: 0,
-            c,
-        }),
-        Instruction::Confusion => Turn::Done(Step::Phase5),
+        Instruction::Fail => Break(Step::Phase5),
+        Instruction::Vow => Break(at.to(Label::Phase4v)),
+        Instruction::Cons => Break(at.to(Label::Phase4c)),
+        Instruction::Confusion => Break(Step::Phase5),
     }
 }
 
-// Removes the prefixes of a word of n letters, each word fetched taking one instruction of the budget.
-pub fn remove_prefixes(budget: usize, n: usize, sheet: &mut [u8]) -> Ran
+// Removes the prefixes of a word of n letters, each word fetched taking one instruction of the budget: None where one more instruction is
+// needed than there is budget for; else it goes on with the step to take.
+pub fn remove_prefixes(budget: usize, n: usize, sheet: &mut [u8]) -> Option<Stopped<Step>>
     requires { (short_word1980 < n) × (n ≤ word_limit1980) × Sheet n sheet.old }
     ensures answer { told result sheet.new ≡ phase3 budget sheet.old }
     ensures place { Ready n result sheet.new }
 {
-    let words = prefix_table();
     let mut left = budget;
-    let first = code_at(sheet, sheet1980::U + 1);
-    let mut turn = Turn::Row {
-        i: sheet1980::U + 2,
+    let first = code_at(sheet, U + 1);
+    let mut row = Row {
+        i: U + 2,
         pc: first as usize,
         c: first,
-        j: sheet1980::U + 1,
+        j: U + 1,
     };
     loop {
-        match turn {
-            Turn::Done(step) => {
-                return Ran::Stopped { left, step };
-            }
-            Turn::Row { i, pc, c, j } => {
-                if left == 0 {
-                    return Ran::Out;
-                }
-                left -= 1;
-                let x = take_apart(prefix_word(&words, pc));
-                turn = interpret(i, c, j, sheet, x);
-            }
+        left = left.checked_sub(1)?;
+        let x = Instruction::from(word_at(prefix_table(), row.pc));
+        match interpret(row, sheet, x) {
+            Continue(next) => row = next,
+            Break(step) => return Some(Stopped { left, next: step }),
         }
     }
 }

@@ -98,7 +98,7 @@ pub fn put_word<'a>(
     ensures { Reports left right word.now customer.now house.now table.now marks.old room.old at result marks.new room.new }
 {
     match hyphenation::hyphenate_word(left, right, word, customer, house, table, marks) {
-        Ok(Found { marks: _, looks }) => Line {
+        Ok(Found { looks, .. }) => Line {
             end: put_line(marks, word, room, at),
             summed: looks,
             refused: false,

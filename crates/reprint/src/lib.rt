@@ -15,28 +15,26 @@ pub fn put_reprint(word: &[u8], marks: &mut [u8], room: &mut [u8], at: usize) ->
     requires { at + length (reprint_line word.now (length marks.old)) ≤ length room.old }
     ensures { Reprinted word.now marks.old room.old at result marks.new room.new }
 {
-    match machine1980::hyphenate_1980(word, marks) {
-        Ok(
-            Some(
-                Reprint {
-                    breaks: _,
-                    executed,
-                },
-            ),
-        ) => Line {
+    let found = match machine1980::hyphenate_1980(word, marks) {
+        Ok(found) => found,
+        Err(g) => {
+            return Line {
+                end: report::put_refusal(writing::QUESTION, g, room, at),
+                summed: 0, // the word is judged before anything runs
+                refused: true, // on its ground
+            };
+        }
+    };
+    match found {
+        Some(Reprint { executed, .. }) => Line {
             end: report::put_line(marks, word, room, at),
             summed: executed,
             refused: false,
         },
-        Ok(None) => Line {
+        None => Line {
             end: report::put_told(writing::QUESTION, 0, 0, 0, room, at),
             summed: 0,
             refused: true,
-        },
-        Err(g) => Line {
-            end: report::put_refusal(writing::QUESTION, g, room, at),
-            summed: 0, // the word is judged before anything runs
-            refused: true, // on its ground
         },
     }
 }

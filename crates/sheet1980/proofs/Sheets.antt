@@ -7,6 +7,7 @@ use mathlib.Core.Path.{◌≡◌, refl, sym, ◌∙◌}
 use native.Mathlib.Omega.{arith}
 use borrow.Author.Tests.{leb-true, leb-false, eqb-false, lt-ltb, ltb-false}
 use lib.Dec.{leb, ltb, eqb}
+use Rattle.std.proofs.lemmas.List.{get_or-set_other}
 use lib.ListN.{length, get_or, set, length-set}
 use Rattle.base.proofs.Lists.{never}
 use Rattle.tables1980.specs.Suffix.{suffix_words, suffix}
@@ -29,13 +30,6 @@ set_same : (l : List ℕ) (j : ℕ) → get_or (set l j 0) j 0 ≡ 0
 set_same [] j = refl
 set_same (x ∷ l) zero = refl
 set_same (x ∷ l) (suc j) = set_same l j
-
-set_other : (l : List ℕ) (j k : ℕ) → (j ≡ k → ⊥) → get_or (set l j 0) k 0 ≡ get_or l k 0
-set_other [] j k h = refl
-set_other (x ∷ l) zero zero h = absurd (h refl)
-set_other (x ∷ l) zero (suc k) h = refl
-set_other (x ∷ l) (suc j) zero h = refl
-set_other (x ∷ l) (suc j) (suc k) h = set_other l j k (λ e. h (omega (arith, e)))
 
 -- a place of the sheet after a store there or elsewhere
 pub clear_either : (sheet : List ℕ) (j k : ℕ) → (mem (clear sheet j) k ≡ mem sheet k) ⊎ (mem (clear sheet j) k ≡ 0)
@@ -63,7 +57,7 @@ clear_other sheet j k h = go (ltb j u) (ltb k u) refl refl
     go : (below out : Bool) → ltb j u ≡ below → ltb k u ≡ out → cond out 0 (get_or (cond below sheet (set sheet (j - u) 0)) (k - u) 0) ≡ cond out 0 (get_or sheet (k - u) 0)
     go below true p q = refl
     go true false p q = refl
-    go false false p q = set_other sheet (j - u) (k - u) (λ e. h (omega (arith, e, ltb-false j u p, ltb-false k u q)))
+    go false false p q = get_or-set_other sheet (j - u) (k - u) 0 0 (λ e. h (omega (arith, e, ltb-false j u p, ltb-false k u q)))
 
 clear_length : (sheet : List ℕ) (j : ℕ) → length (clear sheet j) ≡ length sheet
 unfolding clear

@@ -7,35 +7,38 @@ ghost use Rattle.sheet1980.specs.Sheet.{sheet_of, mem, clear, vowel};
 // Place k of a sheet is written U + k (specs/Sheet.antt: u).
 pub const U: usize = 16;
 
+// A machine that came to its end on a sheet: what is left of its budget, and what the phases behind it go on with.
+#[derive(Clone, Copy)]
+pub struct Stopped<T> {
+    pub left: usize,
+    pub next: T,
+}
+
 // The code at a place; outside the sheet 0.
+#[tactic(auto, unfolding(crate::specs::Sheet::mem))]
 pub fn code_at(sheet: &[u8], i: usize) -> u8
     ensures { result ≡ mem sheet.now i }
 {
-    if i < U {
-        return 0;
+    match i.checked_sub(U) {
+        Some(at) => sheet.get(at).copied().unwrap_or(0),
+        None => 0,
     }
-    let at = i - U;
-    if sheet.len() <= at {
-        return 0;
-    }
-    sheet[at]
 }
 
 // Clears a place; outside the sheet nothing is done.
+#[tactic(auto, unfolding(crate::specs::Sheet::clear))]
 pub fn clear_at(sheet: &mut [u8], i: usize)
     ensures { sheet.new ≡ clear sheet.old i }
 {
-    if i < U {
-        return;
+    if let Some(at) = i.checked_sub(U)
+        && at < sheet.len()
+    {
+        sheet[at] = 0;
     }
-    let at = i - U;
-    if sheet.len() <= at {
-        return;
-    }
-    sheet[at] = 0;
 }
 
 // Is a code a vowel's, or the null code?
+#[tactic(auto, unfolding(crate::specs::Sheet::vowel))]
 pub fn is_vowel(c: u8) -> bool
     ensures { result ≡ vowel c }
 {
@@ -48,10 +51,8 @@ pub fn write_word(word: &[u8], sheet: &mut [u8])
     ensures { sheet.new ≡ sheet_of word.now }
 {
     sheet[0] = 0;
-    let mut i = 0;
-    while i < word.len() {
-        sheet[i + 1] = word[i] % 32;
-        i += 1;
+    for (i, letter) in word.iter().enumerate() {
+        sheet[i + 1] = *letter % 32;
     }
-    sheet[i + 1] = 0;
+    sheet[word.len() + 1] = 0;
 }

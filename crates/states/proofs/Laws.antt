@@ -1,16 +1,21 @@
 -- One law for each way through the code.
-use Prim.Native.Nat.{ℕ, ◌+◌, ◌-◌, ◌≤◌, ◌<◌}
+use Prim.Native.Nat.{ℕ, zero, suc, ◌+◌, ◌-◌, ◌≤◌, ◌<◌}
 use mathlib.Core.Bool.{Bool, true, false, not}
-use mathlib.Core.List.{List}
+use mathlib.Core.List.{List, [], ◌∷◌}
+use mathlib.Core.Logic.{◌↔◌}
 use mathlib.Core.Path.{◌≡◌, refl, sym, ◌∙◌, ap}
 use native.Mathlib.Nat.{sub-zero}
-use borrow.Author.Tests.{eq-eqb, ne_eqb, le-leb, lt-leb}
+use borrow.Author.Tests.{eqb-true, eq-eqb, ne_eqb, le-leb, lt-leb}
 use lib.Dec.{leb}
-use lib.ListN.{length, get_or, take, drop, drop_of_length-le}
+use lib.ListN.{length, get_or, take, drop, length-drop}
+use lib.Seq.{take_all}
+use Rattle.std.specs.Prelude.{IsTrue, EachIndex, slice_index}
+use native.Mathlib.Omega.{arith}
 use Rattle.base.specs.Limits.{word_limit, running_text}
 use Rattle.base.specs.Grounds.{Check}
 use Rattle.std.specs.Prelude.{is_ok}
-use Rattle.base.proofs.Lists.{cons_at}
+use lib.Dec.{eqb}
+use Rattle.base.proofs.Lists.{both, test_iff}
 use Rattle.words.specs.Symbols.{apostrophe}
 use Rattle.words.specs.Words.{judge_word}
 use Rattle.runs.specs.Text.{Holding}
@@ -27,18 +32,23 @@ pub so : (z : Bool) → not z ≡ false → z ≡ true
 so true e = refl
 so false e = sym e
 
--- zeros from a place on
-pub zero_stop : (bytes : List ℕ) (from i : ℕ) → i < length bytes → (get_or bytes i 0 ≡ 0 → ⊥) → all_zero (drop from bytes) ≡ all_zero (drop i bytes) → false ≡ all_zero (drop from bytes)
+-- bytes that are all 0
+zeros_all : (l : List ℕ) → EachIndex l (λ k. slice_index l k ≡ 0) → all_zero l ≡ true
 unfolding all_zero
-zero_stop bytes from i h n e = sym (e ∙ rw (cons_at bytes i h, ne_eqb (get_or bytes i 0) 0 n))
+zeros_all [] h = refl
+zeros_all (b ∷ l) h = rw (eq-eqb b 0 (h 0 (omega arith))) (zeros_all l (λ k m. h (suc k) (omega arith)))
 
-pub zero_turn : (bytes : List ℕ) (from i : ℕ) → i < length bytes → get_or bytes i 0 ≡ 0 → all_zero (drop from bytes) ≡ all_zero (drop i bytes) → all_zero (drop from bytes) ≡ all_zero (drop (i + 1) bytes)
+zeros_each : (l : List ℕ) → all_zero l ≡ true → EachIndex l (λ k. slice_index l k ≡ 0)
 unfolding all_zero
-zero_turn bytes from i h z e = e ∙ rw (cons_at bytes i h, eq-eqb (get_or bytes i 0) 0 z)
+zeros_each [] h k m = absurd (omega arith)
+zeros_each (b ∷ l) h zero m = eqb-true b 0 (both (eqb b 0) (all_zero l) h).0
+zeros_each (b ∷ l) h (suc k) m = zeros_each l (both (eqb b 0) (all_zero l) h).1 k (omega arith)
 
-pub zero_end : (bytes : List ℕ) (from i : ℕ) → length bytes ≤ i → all_zero (drop from bytes) ≡ all_zero (drop i bytes) → true ≡ all_zero (drop from bytes)
-unfolding all_zero
-zero_end bytes from i h e = sym (e ∙ rw (drop_of_length-le bytes h))
+pub zeros_by : (bytes : List ℕ) {z : Bool} → (IsTrue z ↔ EachIndex bytes (λ k. slice_index bytes k ≡ 0)) → z ≡ all_zero bytes
+zeros_by bytes {z = z} e = test_iff z (all_zero bytes) (λ t. zeros_all bytes (e.0 t)) (λ t. e.1 (zeros_each bytes t))
+
+pub zeros_behind : (held : List ℕ) (size : ℕ) {z : Bool} → z ≡ all_zero (take (length held - size) (drop size held)) → z ≡ all_zero (drop size held)
+zeros_behind held size e = e ∙ ap all_zero (take_all (length held - size) (drop size held) (omega (arith, length-drop size held)))
 
 -- words
 pub word_as_judged : (w : List ℕ) {c : Check} → c ≡ judge_word word_limit w → is_ok c ≡ is_word w

@@ -41,18 +41,11 @@ pub fn new_text() -> TextState
     }
 }
 
-// Are all bytes from a place on 0?
-fn are_zero(bytes: &[u8], from: usize) -> bool
-    ensures { result ≡ all_zero (drop from bytes.now) }
+// Are all bytes 0?
+fn are_zero(bytes: &[u8]) -> bool
+    ensures { result ≡ all_zero bytes.now }
 {
-    let mut i = from;
-    while i < bytes.len() {
-        if bytes[i] != 0 {
-            return false;
-        }
-        i += 1;
-    }
-    true
+    bytes.iter().all(|b| *b == 0)
 }
 
 // Does the hyphenating call take these bytes for a word?
@@ -112,7 +105,7 @@ fn are_left(held: &[u8], size: usize, run: u8, total: usize) -> bool
     if held.len() < size {
         return false;
     }
-    if !are_zero(held, size) {
+    if !are_zero(&held[size..]) {
         return false;
     }
     if run == HOLDING {
@@ -148,9 +141,7 @@ fn read_total(bytes: &[u8]) -> u32
     requires { head_size ≤ length bytes.now }
     ensures { result ≡ total_of bytes.now }
 {
-    let high = bytes[2] as u32 * 256 + bytes[3] as u32;
-    let low = bytes[4] as u32 * 256 + bytes[5] as u32;
-    high * 65536 + low
+    u32::from_be_bytes([bytes[2], bytes[3], bytes[4], bytes[5]])
 }
 
 // A state by its bytes. Where the two that are always 0 aren't, it is none that the calls could have left.
@@ -165,14 +156,9 @@ pub fn read_bytes(bytes: &[u8]) -> TextState
         return new_text(); // nor is this one ever set
     }
     let mut held = [0u8; base::HELD_LIMIT];
-    rooms::copy_to(
-        &mut held,
-        0,
-        &bytes[HEAD_SIZE..STATE_SIZE],
-        base::HELD_LIMIT,
-    );
+    held.copy_from_slice(&bytes[HEAD_SIZE..]);
     TextState {
-        held: held,
+        held,
         size: bytes[0],
         run: bytes[1],
         total: read_total(bytes),
@@ -185,13 +171,7 @@ pub fn put_bytes(s: TextState, bytes: &mut [u8])
     ensures { bytes.new ≡ state_bytes s }
 {
     let held = s.held;
-    bytes[0] = s.size;
-    bytes[1] = s.run;
-    bytes[2] = (s.total / 16777216) as u8;
-    bytes[3] = (s.total / 65536 % 256) as u8;
-    bytes[4] = (s.total / 256 % 256) as u8;
-    bytes[5] = (s.total % 256) as u8;
-    bytes[6] = 0;
-    bytes[7] = 0;
-    rooms::copy_to(bytes, HEAD_SIZE, &held, base::HELD_LIMIT);
+    let [high, second, third, low] = s.total.to_be_bytes();
+    bytes[..HEAD_SIZE].copy_from_slice(&[s.size, s.run, high, second, third, low, 0, 0]);
+    bytes[HEAD_SIZE..].copy_from_slice(&held);
 }

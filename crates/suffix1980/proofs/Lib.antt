@@ -2,5 +2,4 @@ pub mod Rows
 pub mod Ends
 pub mod Budget
 pub mod Masks
-pub mod Laws
 pub mod Going

@@ -1,19 +1,18 @@
 -- How far a run of the suffix machine can go: tests over its whole table.
 use Prim.Native.Nat.{ℕ, ◌<◌, ◌≤◌}
-use mathlib.Core.Bool.{Bool, true, cond, ◌&&◌}
+use mathlib.Core.Bool.{Bool, true, ◌&&◌}
 use mathlib.Core.List.{List, [], ◌∷◌}
-use mathlib.Core.Path.{◌≡◌}
+use mathlib.Core.Path.{◌≡◌, refl}
 use native.Mathlib.Omega.{arith}
-use borrow.Author.Tests.{lt-ltb}
-use lib.Dec.{T, leb, ltb, leb→le}
+use lib.Dec.{T, leb, leb→le}
 use lib.ListN.{length, get_or}
 use Rattle.tables1980.specs.Suffix.{suffix_words, suffix}
 use Rattle.tables1980.proofs.Targets.{suffix_rows}
 use Rattle.suffix1980.specs.Suffixes.{decode}
 use Rattle.suffix1980.specs.declared.Instruction.{Instruction}
 use Rattle.suffix1980.specs.declared.Instruction.TheVariants.{Scan, Double, Table, Check, Success, Fail, Repeat, Again, Mark, Efail, Confusion}
-use Rattle.tables1980.proofs.Table.{every, at}
-use Rattle.tables1980.proofs.Heights.{goes, goes_right, goes_both, cond_true, letter_row, letter_right, inside}
+use Rattle.tables1980.proofs.Table.{every}
+use Rattle.tables1980.proofs.Heights.{goes, goes_right, goes_both, run_row, row_right, letter_right}
 use Rattle.tables1980.proofs.Heights as runs
 
 -- A letter mask has height 0, but row 0, which a re-entry could name, has 1: it would be fetched and stop.
@@ -81,39 +80,24 @@ sound_right k (Mark t truex) s = goes_right heights credits k truex 0 s
 sound_right k Efail s = tt
 sound_right k Confusion s = tt
 
--- the tests over the table
+-- the test over the table
 row_sound : ℕ → ℕ → Bool
-row_sound k w = cond (ltb 0 (height k)) (sound k (decode w)) true
+row_sound k w = sound k (decode w)
 
-row_low : ℕ → ℕ → Bool
-row_low k w = leb (height k) 12
-
-tested_sound : T (every row_sound 0 suffix_words)
-unfolding suffix_words heights credits row_sound sound goes decode
-tested_sound = tt
-
-tested_low : T (every row_low 0 suffix_words)
-unfolding suffix_words heights row_low
-tested_low = tt
-
-tested_letters : T (every (letter_row heights credits) 0 suffix_words)
-unfolding suffix_words heights credits letter_row
-tested_letters = tt
-
--- a row with a height is a row of the table
-height_row : (k : ℕ) → 0 < height k → k < length suffix_words
+same : length heights ≡ length suffix_words
 unfolding heights suffix_words
-height_row k h = inside heights k h
+same = refl
+
+tested : T (every (run_row heights credits row_sound 12) 0 suffix_words)
+unfolding suffix_words heights credits run_row row_sound sound goes decode
+tested = tt
 
 pub row_sound_lem : (k : ℕ) → 0 < height k → Sound k (decode (suffix k))
 unfolding suffix row_sound
-row_sound_lem k h =
-    sound_right k (decode (suffix k))
-    (cond_true (ltb 0 (height k)) (sound k (decode (suffix k))) (at row_sound suffix_words tested_sound k (height_row k h)) (lt-ltb 0 (height k) h))
+row_sound_lem k h = sound_right k (decode (suffix k)) (row_right heights credits suffix_words row_sound 12 same tested k h).1
 
 pub row_low_lem : (k : ℕ) → 0 < height k → height k ≤ 12
-unfolding row_low
-row_low_lem k h = leb→le (height k) 12 (at row_low suffix_words tested_low k (height_row k h))
+row_low_lem k h = (row_right heights credits suffix_words row_sound 12 same tested k h).0
 
 pub letter_row_lem : (k : ℕ) → k ≤ 26 → (0 < height k) × (credit k ≡ 0)
-letter_row_lem k h = letter_right heights credits suffix_words tested_letters k (omega (arith, suffix_rows)) h
+letter_row_lem k h = letter_right heights credits suffix_words row_sound 12 same tested k (omega (arith, suffix_rows)) h

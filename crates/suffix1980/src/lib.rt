@@ -9,8 +9,9 @@ ghost use Rattle.sheet1980.specs.Sheet.{u, place_bound, mem, clear, Sheet};
 ghost use Rattle.suffix1980.specs.Suffixes.{decode, final_at, restarts, marksuf, interps, phase2};
 ghost use Rattle.suffix1980.specs.Joined.{joined, Branched, told, Ready};
 
-use sheet1980::{clear_at, code_at};
-use tables1980::{ROWS, has_bit, suffix_table, suffix_word};
+use sheet1980::{Stopped, U, clear_at, code_at};
+use std::ops::ControlFlow::{self, Break, Continue};
+use tables1980::{has_bit, suffix_table, word_at};
 
 // An instruction word taken apart: operand, truex and falsex, as far as its opcode uses them.
 #[derive(Clone, Copy)]
@@ -28,26 +29,29 @@ pub enum Instruction {
     Confusion,
 }
 
-// Where the machine goes: on to a row, or to phase 3.
+// The machine's registers at a row.
 #[derive(Clone, Copy)]
-pub enum Turn {
-    Row {
-        i: usize,
-        pc: usize,
-        firsttime: bool,
-        finale: usize,
-    },
-    Done {
-        finale: usize,
-    },
+pub struct Row {
+    pub i: usize,
+    pub pc: usize,
+    pub firsttime: bool,
+    pub finale: usize,
 }
 
-// What it comes to: the budget is used up and one more instruction needed; or what is left of it, and finale.
-#[derive(Clone, Copy)]
-pub enum Ran {
-    Out,
-    Stopped { left: usize, finale: usize },
+impl Row {
+    // The same at another row.
+    fn with_row(self, pc: u16) -> Row
+        ensures { result ≡ record { i = self.i; pc = pc; firsttime = self.firsttime; finale = self.finale } }
+    {
+        Row {
+            pc: pc as usize,
+            ..self
+        }
+    }
 }
+
+// Where the machine goes: on to a row, or to phase 3 with finale.
+pub type Turn = ControlFlow<usize, Row>;
 
 // The values of finale that are no places (specs/Suffixes.antt: infinity, ed_removed).
 const INFINITY: usize = 1000000;
@@ -59,79 +63,60 @@ const LETTER_D: u8 = 4;
 
 const LETTER_E: u8 = 5;
 
-fn take_apart(w: u64) -> Instruction
-    ensures { result ≡ decode w }
-{
-    let opcode = w >> 27;
-    let truex = ((w >> 18) % 512) as u16;
-    let falsex = ((w >> 9) % 512) as u16;
-    let t = (w % 512) as u16;
-    if opcode == 0 {
-        return Instruction::Scan { t, truex, falsex };
+#[tactic(auto, unfolding(crate::specs::Suffixes::decode))]
+impl From<u64> for Instruction {
+    ghost from_gives = { λ w x. x ≡ decode w };
+
+    fn from(w: u64) -> Self {
+        let t = (w % 512) as u16;
+        let falsex = ((w >> 9) % 512) as u16;
+        let truex = ((w >> 18) % 512) as u16;
+        match w >> 27 {
+            0 => Instruction::Scan { t, truex, falsex },
+            1 => Instruction::Double { truex, falsex },
+            2 => Instruction::Table { t, truex, falsex },
+            3 => Instruction::Check { truex, falsex },
+            4 => Instruction::Success { t },
+            5 => Instruction::Fail,
+            6 => Instruction::Repeat { t },
+            7 => Instruction::Again { truex },
+            8 => Instruction::Mark { t, truex },
+            9 => Instruction::Efail,
+            _ => Instruction::Confusion,
+        }
     }
-    if opcode == 1 {
-        return Instruction::Double { truex, falsex };
-    }
-    if opcode == 2 {
-        return Instruction::Table { t, truex, falsex };
-    }
-    if opcode == 3 {
-        return Instruction::Check { truex, falsex };
-    }
-    if opcode == 4 {
-        return Instruction::Success { t };
-    }
-    if opcode == 5 {
-        return Instruction::Fail;
-    }
-    if opcode == 6 {
-        return Instruction::Repeat { t };
-    }
-    if opcode == 7 {
-        return Instruction::Again { truex };
-    }
-    if opcode == 8 {
-        return Instruction::Mark { t, truex };
-    }
-    if opcode == 9 {
-        return Instruction::Efail;
-    }
-    Instruction::Confusion
 }
 
 // A test's two ways: with a letter matched, i goes back by one.
-fn branch(matched: bool, i: usize, truex: u16, falsex: u16, firsttime: bool, finale: usize) -> Turn
-    requires { 1 ≤ i }
-    ensures { Branched matched i truex falsex firsttime finale result }
+fn branch(at: Row, matched: bool, truex: u16, falsex: u16) -> Turn
+    requires { 1 ≤ at.i }
+    ensures { Branched matched at.i truex falsex at.firsttime at.finale result }
 {
-    if matched {
-        return Turn::Row {
-            i: i - 1,
-            pc: truex as usize,
-            firsttime,
-            finale,
-        };
-    }
-    Turn::Row {
+    let (i, pc) = if matched {
+        (at.i - 1, truex)
+    } else {
+        (at.i, falsex)
+    };
+    Continue(Row {
         i,
-        pc: falsex as usize,
-        firsttime,
-        finale,
-    }
+        pc: pc as usize,
+        ..at
+    })
 }
 
 // finale at a re-entry.
+#[tactic(auto, unfolding(crate::specs::Suffixes::final_at))]
 fn final_at(i: usize, pc: usize, finale: usize) -> usize
     requires { i ≤ place_bound }
     ensures { result ≡ final_at i pc finale }
 {
     if pc == LETTER_E as usize {
-        return i + 1;
+        i + 1
+    } else if finale == ED_REMOVED {
+        i + 2
+    } else {
+        INFINITY
     }
-    if finale == ED_REMOVED {
-        return i + 2;
-    }
-    INFINITY
 }
 
 // The first time is over.
@@ -139,16 +124,16 @@ fn restart(i: usize, finale: usize, sheet: &[u8]) -> Turn
     requires { i ≤ place_bound }
     ensures { joined result sheet.now ≡ restarts i finale sheet.now }
 {
-    if i < sheet1980::U + 3 {
-        return Turn::Done { finale };
-    }
-    let pc = code_at(sheet, i + 1) as usize;
-    let last = final_at(i, pc, finale);
-    Turn::Row {
-        i,
-        pc,
-        firsttime: false,
-        finale: last,
+    if i < U + 3 {
+        Break(finale)
+    } else {
+        let pc = code_at(sheet, i + 1) as usize;
+        Continue(Row {
+            i,
+            pc,
+            firsttime: false,
+            finale: final_at(i, pc, finale),
+        })
     }
 }
 
@@ -166,18 +151,15 @@ fn ends_in_ed(n: usize, sheet: &[u8]) -> bool
     requires { n ≤ word_limit1980 }
     ensures { result ≡ (eqb (mem sheet.now (u + n)) (o "d") && eqb (mem sheet.now (u + n - 1)) (o "e")) }
 {
-    if code_at(sheet, sheet1980::U + n) != LETTER_D {
-        return false;
-    }
-    code_at(sheet, sheet1980::U + n - 1) == LETTER_E
+    code_at(sheet, U + n) == LETTER_D && code_at(sheet, U + n - 1) == LETTER_E
 }
 
 // Is the letter at a place one of the mask in a row?
-fn is_in_mask(words: &[u64; ROWS], sheet: &[u8], i: usize, t: u16) -> bool
-    requires { words.now ≡ suffix_words }
+#[tactic(auto, using(tables1980::proofs::Readers::suffix_word))]
+fn is_in_mask(sheet: &[u8], i: usize, t: u16) -> bool
     ensures { result ≡ (mem sheet.now i ε suffix t) }
 {
-    has_bit(suffix_word(words, t as usize), code_at(sheet, i))
+    has_bit(word_at(suffix_table(), t as usize), code_at(sheet, i))
 }
 
 // Is the letter at a place like the one before it?
@@ -188,139 +170,79 @@ fn is_double(sheet: &[u8], i: usize) -> bool
     code_at(sheet, i) == code_at(sheet, i - 1)
 }
 
-// Is a hyphen to be marked? With operand 0 the first time only.
-fn is_marked(t: u16, firsttime: bool) -> bool
-    ensures { result ≡ (not (eqb t 0) || firsttime) }
-{
-    if t != 0 {
-        return true;
-    }
-    firsttime
-}
-
-// The hyphen of a mark.
+// The hyphen of a mark, with operand 0 the first time only.
 fn mark_letter(t: u16, firsttime: bool, i: usize, sheet: &mut [u8])
     requires { i ≤ place_bound }
     ensures { sheet.new ≡ cond (not (eqb t 0) || firsttime) (clear sheet.old (i + t + 1)) sheet.old }
 {
-    if is_marked(t, firsttime) {
+    if t != 0 || firsttime {
         clear_at(sheet, i + t as usize + 1);
     }
 }
 
 // One instruction.
-fn interpret(
-    words: &[u64; ROWS],
-    n: usize,
-    i: usize,
-    firsttime: bool,
-    finale: usize,
-    sheet: &mut [u8],
-    x: Instruction,
-) -> Turn
-    requires { (short_word1980 < n) × (n ≤ word_limit1980) × (1 ≤ i) × (i ≤ u + n) × (words.now ≡ suffix_words) }
-    ensures { joined result sheet.new ≡ interps n i firsttime finale sheet.old x }
+#[tactic(auto, unfolding(crate::specs::Suffixes::interps))]
+fn interpret(n: usize, at: Row, sheet: &mut [u8], x: Instruction) -> Turn
+    requires { (short_word1980 < n) × (n ≤ word_limit1980) × (1 ≤ at.i) × (at.i ≤ u + n) }
+    ensures { joined result sheet.new ≡ interps n at.i at.firsttime at.finale sheet.old x }
 {
     match x {
         Instruction::Scan { t, truex, falsex } => {
-            let matched = code_at(sheet, i) as u16 % 32 == t % 32;
-            branch(matched, i, truex, falsex, firsttime, finale)
+            let matched = code_at(sheet, at.i) as u16 % 32 == t % 32;
+            branch(at, matched, truex, falsex)
         }
         Instruction::Double { truex, falsex } => {
-            let matched = is_double(sheet, i);
-            branch(matched, i, truex, falsex, firsttime, finale)
+            let matched = is_double(sheet, at.i);
+            branch(at, matched, truex, falsex)
         }
         Instruction::Table { t, truex, falsex } => {
-            let matched = is_in_mask(words, sheet, i, t);
-            branch(matched, i, truex, falsex, firsttime, finale)
+            let matched = is_in_mask(sheet, at.i, t);
+            branch(at, matched, truex, falsex)
         }
         Instruction::Check { truex, falsex } => {
-            if i <= sheet1980::U + 3 {
-                return Turn::Row {
-                    i,
-                    pc: falsex as usize,
-                    firsttime,
-                    finale,
-                };
-            }
-            Turn::Row {
-                i,
-                pc: truex as usize,
-                firsttime,
-                finale,
-            }
+            let pc = if at.i <= U + 3 { falsex } else { truex };
+            Continue(at.with_row(pc))
         }
         Instruction::Success { t } => {
-            clear_at(sheet, i + t as usize + 1);
-            Turn::Done { finale }
+            clear_at(sheet, at.i + t as usize + 1);
+            Break(at.finale)
         }
-        Instruction::Fail => Turn::Done { finale },
-        Instruction::Repeat { t } => mark_suffix(i + t as usize - 1, finale, sheet),
-        Instruction::Again { truex } => {
-            if firsttime {
-                return restart(sheet1980::U + n - 2, finale, sheet);
-            }
-            Turn::Row {
-                i,
-                pc: truex as usize,
-                firsttime,
-                finale,
-            }
-        }
+        Instruction::Fail => Break(at.finale),
+        Instruction::Repeat { t } => mark_suffix(at.i + t as usize - 1, at.finale, sheet),
+        Instruction::Again { .. } if at.firsttime => restart(U + n - 2, at.finale, sheet),
+        Instruction::Again { truex } => Continue(at.with_row(truex)),
         Instruction::Mark { t, truex } => {
-            mark_letter(t, firsttime, i, sheet);
-            Turn::Row {
-                i,
-                pc: truex as usize,
-                firsttime,
-                finale,
-            }
+            mark_letter(t, at.firsttime, at.i, sheet);
+            Continue(at.with_row(truex))
         }
-        Instruction::Efail => {
-            if ends_in_ed(n, sheet) {
-                return mark_suffix(sheet1980::U + n - 3, ED_REMOVED, sheet);
-            }
-            Turn::Done { finale }
-        }
-        Instruction::Confusion => Turn::Done { finale },
+        Instruction::Efail if ends_in_ed(n, sheet) => mark_suffix(U + n - 3, ED_REMOVED, sheet),
+        Instruction::Efail => Break(at.finale),
+        Instruction::Confusion => Break(at.finale),
     }
 }
 
-// Removes the suffixes of a word of n letters, each word fetched taking one instruction of the budget.
-pub fn remove_suffixes(budget: usize, n: usize, sheet: &mut [u8]) -> Ran
+// Removes the suffixes of a word of n letters, each word fetched taking one instruction of the budget: None where one more instruction is
+// needed than there is budget for; else it goes on with finale.
+pub fn remove_suffixes(budget: usize, n: usize, sheet: &mut [u8]) -> Option<Stopped<usize>>
     requires { (short_word1980 < n) × (n ≤ word_limit1980) × Sheet n sheet.old }
     ensures answer { told result sheet.new ≡ phase2 budget n sheet.old }
     ensures kept { Ready n result sheet.new }
 {
-    let words = suffix_table();
     let mut left = budget;
-    let at = sheet1980::U + n - 1;
-    let first = code_at(sheet, at + 1) as usize;
-    let last = final_at(at, first, INFINITY);
-    let mut turn = Turn::Row {
-        i: at,
-        pc: first,
+    let i = U + n - 1;
+    let pc = code_at(sheet, i + 1) as usize;
+    let mut row = Row {
+        i,
+        pc,
         firsttime: true,
-        finale: last,
+        finale: final_at(i, pc, INFINITY),
     };
     loop {
-        match turn {
-            Turn::Done { finale } => {
-                return Ran::Stopped { left, finale };
-            }
-            Turn::Row {
-                i,
-                pc,
-                firsttime,
-                finale,
-            } => {
-                if left == 0 {
-                    return Ran::Out;
-                }
-                left -= 1;
-                let x = take_apart(suffix_word(&words, pc));
-                turn = interpret(&words, n, i, firsttime, finale, sheet, x);
-            }
+        left = left.checked_sub(1)?;
+        let x = Instruction::from(word_at(suffix_table(), row.pc));
+        match interpret(n, row, sheet, x) {
+            Continue(next) => row = next,
+            Break(finale) => return Some(Stopped { left, next: finale }),
         }
     }
 }

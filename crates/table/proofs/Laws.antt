@@ -2,11 +2,11 @@
 use Prim.Native.Nat.{ℕ, ◌+◌, ◌*◌, ◌-◌, ◌/◌, ◌%◌, ◌≤◌, ◌<◌}
 use mathlib.Core.Bool.{and-false}
 use mathlib.Core.List.{List, [], ◌∷◌, ◌++◌}
-use mathlib.Core.Path.{◌≡◌, refl, sym, ◌∙◌, ap}
+use mathlib.Core.Path.{◌≡◌, sym, ◌∙◌, ap}
 use native.Mathlib.Omega.{arith}
 use borrow.Author.Tests.{lt-leb, le-leb, eq-eqb, ne_eqb, lt-ltb, le-ltb}
 use lib.Dec.{eqb}
-use lib.ListN.{length, get_or, set, take, drop, length-drop, drop_of_length-le, get_or-eq_default}
+use lib.ListN.{length, get_or, set, take, drop, length-drop, drop_of_length-le}
 use lib.Seq.{take_all, take-nil, set_out}
 use Rattle.base.specs.Limits.{cell_limit, entry_limit}
 use Rattle.std.specs.Prelude.{Ok, Err, None, Some}
@@ -14,30 +14,27 @@ use Rattle.base.specs.declared.Ground.TheVariants.{TableForm}
 use Rattle.table.specs.Table.{head_kind, edition, head_size, cell_size, number_at, put_number, cell_count, entry_count, formed, judge_table, cells_from, entries_from, behind, cells_of, entries_of, cells_place, entries_place, look, entry_at, hit, has, Look}
 use Rattle.table.specs.Records.{two_bytes, head_bytes}
 
-pub number_is : (t : List ℕ) (at : ℕ) → 256 * get_or t at 0 + get_or t (at + 1) 0 ≡ number_at t at
-unfolding number_at
-number_is t at = refl
+-- the two bytes of a number as the library writes them
+pub record Halves (told : List ℕ) (n : ℕ) : Type 0 where
+  pub high : get_or told 0 0 ≡ n / 256
+  pub low : get_or told 1 0 ≡ n % 256
 
-pub number_past : (t : List ℕ) (at : ℕ) → length t ≤ at → 0 ≡ number_at t at
-unfolding number_at
-number_past t at h = let k : length t ≤ at + 1 = omega arith in rw (get_or-eq_default t 0 h, get_or-eq_default t 0 k)
-
-pub number_by : (t : List ℕ) (at : ℕ) {b : ℕ} → b ≡ get_or t (at + 1) 0 → 256 * get_or t at 0 + b ≡ number_at t at
-unfolding number_at
-number_by t at q = rw q
+pub halves : {told : List ℕ} (n : ℕ) → n < 65536 → told ≡ (n / 256 % 256) ∷ (n % 256) ∷ [] → Halves told n
+halves n h e = record { high = rw e (omega arith); low = rw e }
 
 module _ (t : List ℕ) (at n : ℕ) where
   pub put_past : length t ≤ at → t ≡ put_number at n t
   unfolding put_number
   put_past h = let k : length t ≤ at + 1 = omega arith in rw (set_out t at (n / 256) h, set_out t (at + 1) (n % 256) k)
 
-  pub put_half : length (set t at (n / 256)) ≤ at + 1 → set t at (n / 256) ≡ put_number at n t
-  unfolding put_number
-  put_half h = sym (set_out (set t at (n / 256)) (at + 1) (n % 256) h)
+  module _ {told : List ℕ} (e : Halves told n) where
+    pub put_half : length (set t at (get_or told 0 0)) ≤ at + 1 → set t at (get_or told 0 0) ≡ put_number at n t
+    unfolding put_number
+    put_half h = sym (set_out (set t at (get_or told 0 0)) (at + 1) (n % 256) h) ∙ rw e.high
 
-  pub put_both : set (set t at (n / 256)) (at + 1) (n % 256) ≡ put_number at n t
-  unfolding put_number
-  put_both = refl
+    pub put_both : set (set t at (get_or told 0 0)) (at + 1) (get_or told 1 0) ≡ put_number at n t
+    unfolding put_number
+    put_both = rw (e.high, e.low)
 
 pub cells_told : (t : List ℕ) {n : ℕ} → n ≡ number_at t 2 → n ≡ cell_count t
 unfolding cell_count
@@ -177,16 +174,10 @@ unfolding cells_place
 cells_lie t at e = e
 
 -- the head, byte by byte
-pub head_put : (c e : ℕ) (room : List ℕ) → head_size ≤ length room
-    → set (set (set (set (set (set room 0 head_kind) 1 edition) 2 (c / 256)) 3 (c % 256)) 4 (e / 256)) 5 (e % 256) ≡ head_bytes c e ++ drop head_size room
+pub head_put : (c e : ℕ) (room : List ℕ) {cells entries head : List ℕ} → Halves cells c → Halves entries e
+    → head ≡ head_kind ∷ edition ∷ get_or cells 0 0 ∷ get_or cells 1 0 ∷ get_or entries 0 0 ∷ get_or entries 1 0 ∷ [] → head ++ drop head_size room ≡ head_bytes c e ++ drop head_size room
 unfolding head_bytes two_bytes
-head_put c e [] h = absurd (omega arith)
-head_put c e (x ∷ []) h = absurd (omega arith)
-head_put c e (x ∷ x₁ ∷ []) h = absurd (omega arith)
-head_put c e (x ∷ x₁ ∷ x₂ ∷ []) h = absurd (omega arith)
-head_put c e (x ∷ x₁ ∷ x₂ ∷ x₃ ∷ []) h = absurd (omega arith)
-head_put c e (x ∷ x₁ ∷ x₂ ∷ x₃ ∷ x₄ ∷ []) h = absurd (omega arith)
-head_put c e (x ∷ x₁ ∷ x₂ ∷ x₃ ∷ x₄ ∷ x₅ ∷ room) h = refl
+head_put c e room f g h = rw (h, f.high, f.low, g.high, g.low)
 
 -- equal cells have equal parts
 parts : Look → ℕ × ℕ

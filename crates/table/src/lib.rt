@@ -47,11 +47,12 @@ pub struct Entry {
 }
 
 // A number of two bytes of which both are there.
+#[tactic(auto, unfolding(crate::specs::Table::number_at))]
 fn number_in(bytes: &[u8], at: usize) -> u16
     requires { at + 1 < length bytes.now }
     ensures { result ≡ number_at bytes.now at }
 {
-    256 * (bytes[at] as u16) + bytes[at + 1] as u16
+    u16::from_be_bytes([bytes[at], bytes[at + 1]])
 }
 
 // Ground 9.
@@ -88,20 +89,18 @@ pub fn judge_table(table: &[u8]) -> Result<(), Ground>
 fn byte_at(bytes: &[u8], at: usize) -> u8
     ensures { result ≡ get_or bytes.now at 0 }
 {
-    if at < bytes.len() {
-        return bytes[at];
-    }
-    0
+    bytes.get(at).copied().unwrap_or(0)
 }
 
 // A number of two bytes, each of them 0 past the end.
+#[tactic(auto, unfolding(crate::specs::Table::number_at))]
 pub fn number_at(bytes: &[u8], at: usize) -> u16
     ensures { result ≡ number_at bytes.now at }
 {
     if bytes.len() <= at {
         return 0;
     }
-    256 * (bytes[at] as u16) + byte_at(bytes, at + 1) as u16
+    u16::from_be_bytes([bytes[at], byte_at(bytes, at + 1)])
 }
 
 // A number of two bytes written where there is room for them.
@@ -111,9 +110,10 @@ pub fn put_number(bytes: &mut [u8], at: usize, n: u16)
     if bytes.len() <= at {
         return;
     }
-    bytes[at] = (n / 256) as u8;
+    let [high, low] = n.to_be_bytes();
+    bytes[at] = high;
     if at + 1 < bytes.len() {
-        bytes[at + 1] = (n % 256) as u8;
+        bytes[at + 1] = low;
     }
 }
 
@@ -182,12 +182,9 @@ pub fn put_head(room: &mut [u8], cells: u16, entries: u16)
     requires { head_size ≤ length room.old }
     ensures { room.new ≡ head_bytes cells entries ++ drop head_size room.old }
 {
-    room[0] = HEAD_KIND;
-    room[1] = EDITION;
-    room[2] = (cells / 256) as u8;
-    room[3] = (cells % 256) as u8;
-    room[4] = (entries / 256) as u8;
-    room[5] = (entries % 256) as u8;
+    let [c_high, c_low] = cells.to_be_bytes();
+    let [e_high, e_low] = entries.to_be_bytes();
+    room[..HEAD_SIZE].copy_from_slice(&[HEAD_KIND, EDITION, c_high, c_low, e_high, e_low]);
 }
 
 // The look at the cell numbered base + symbol. Most looks miss by the symbol, so it is asked first.

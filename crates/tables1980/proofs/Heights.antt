@@ -5,7 +5,7 @@ use mathlib.Core.Bool.{Bool, true, false, cond, ◌&&◌}
 use mathlib.Core.List.{List}
 use mathlib.Core.Path.{◌≡◌, refl}
 use native.Mathlib.Omega.{arith}
-use borrow.Author.Tests.{ltb-true, ltb-false, le-leb}
+use borrow.Author.Tests.{ltb-true, ltb-false, lt-ltb, le-leb}
 use lib.Dec.{T, leb, ltb, eqb, leb→le, ltb→lt, eqb→eq}
 use lib.ListN.{length, get_or, get_or-eq_default}
 use Rattle.base.proofs.Lists.{never}
@@ -26,7 +26,7 @@ pub and_T : (a b : Bool) → T (a && b) → T a × T b
 and_T true b t = (tt, t)
 and_T false b t = absurd t
 
-pub cond_true : (test a : Bool) → T (cond test a true) → test ≡ true → T a
+cond_true : (test a : Bool) → T (cond test a true) → test ≡ true → T a
 cond_true true a t e = t
 cond_true false a t e = never e
 
@@ -45,20 +45,42 @@ module _ (heights credits : List ℕ) where
       (goes_right k x m a.0, goes_right k f l a.1)
 
   -- the rows of letters, which a run begins with: no letter was matched yet
-  unfoldable pub letter_row : ℕ → ℕ → Bool
-  letter_row k w = cond (leb k 26) (ltb 0 (get_or heights k 0) && eqb (get_or credits k 0) 0) true
+  abbrev pub letter_row : ℕ → Bool
+  letter_row k = cond (leb k 26) (ltb 0 (get_or heights k 0) && eqb (get_or credits k 0) 0) true
 
-  pub letter_right : (words : List ℕ) → T (every letter_row 0 words) → (k : ℕ) → k < length words → k ≤ 26 → (0 < get_or heights k 0) × (get_or credits k 0 ≡ 0)
-  unfolding letter_row
-  letter_right words tested k l h =
-      let t = cond_true (leb k 26) (ltb 0 (get_or heights k 0) && eqb (get_or credits k 0) 0) (at letter_row words tested k l) (le-leb k 26 h) in
-      let a = and_T (ltb 0 (get_or heights k 0)) (eqb (get_or credits k 0) 0) t in
-      (ltb→lt 0 (get_or heights k 0) a.0, eqb→eq (get_or credits k 0) 0 a.1)
+  -- a row that has a height: it isn't higher than the highest, and its word passes
+  abbrev pub sound_row : (ℕ → ℕ → Bool) → ℕ → ℕ → ℕ → Bool
+  sound_row test most k w = cond (ltb 0 (get_or heights k 0)) (leb (get_or heights k 0) most && test k w) true
+
+  unfoldable pub run_row : (ℕ → ℕ → Bool) → ℕ → ℕ → ℕ → Bool
+  run_row test most k w = letter_row k && sound_row test most k w
 
 -- a row that has a height is one of the list's
-pub inside : (heights : List ℕ) (k : ℕ) → 0 < get_or heights k 0 → k < length heights
+inside : (heights : List ℕ) (k : ℕ) → 0 < get_or heights k 0 → k < length heights
 inside heights k h = go (ltb k (length heights)) refl
   where
     go : (z : Bool) → ltb k (length heights) ≡ z → k < length heights
     go true e = ltb-true k (length heights) e
     go false e = absurd (omega (arith, get_or-eq_default heights 0 (ltb-false k (length heights) e)))
+
+-- One test over a whole table, and the rules at its rows.
+module _ (heights credits words : List ℕ) (test : ℕ → ℕ → Bool) (most : ℕ) (same : length heights ≡ length words)
+    (tested : T (every (run_row heights credits test most) 0 words)) (k : ℕ) where
+  passed : k < length words → T (letter_row heights credits k) × T (sound_row heights credits test most k (get_or words k 0))
+  unfolding run_row
+  passed l =
+      and_T (letter_row heights credits k) (sound_row heights credits test most k (get_or words k 0))
+      (at (run_row heights credits test most) words tested k l)
+
+  pub letter_right : k < length words → k ≤ 26 → (0 < get_or heights k 0) × (get_or credits k 0 ≡ 0)
+  letter_right l h =
+      let t = cond_true (leb k 26) (ltb 0 (get_or heights k 0) && eqb (get_or credits k 0) 0) (passed l).0 (le-leb k 26 h) in
+      let a = and_T (ltb 0 (get_or heights k 0)) (eqb (get_or credits k 0) 0) t in
+      (ltb→lt 0 (get_or heights k 0) a.0, eqb→eq (get_or credits k 0) 0 a.1)
+
+  pub row_right : 0 < get_or heights k 0 → (get_or heights k 0 ≤ most) × T (test k (get_or words k 0))
+  row_right h =
+      let l : k < length words = omega (arith, inside heights k h, same) in
+      let a = and_T (leb (get_or heights k 0) most) (test k (get_or words k 0))
+          (cond_true (ltb 0 (get_or heights k 0)) (leb (get_or heights k 0) most && test k (get_or words k 0)) (passed l).1 (lt-ltb 0 (get_or heights k 0) h)) in
+      (leb→le (get_or heights k 0) most a.0, a.1)

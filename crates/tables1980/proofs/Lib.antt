@@ -1,4 +1,4 @@
-pub mod Laws
 pub mod Table
 pub mod Heights
 pub mod Targets
+pub mod Readers

@@ -2,10 +2,10 @@
 // CR 4. Each word has 36 bits. specs/ has the same tables in 004's own terms, and each reader's promise joins the two.
 #![tactic(auto)]
 
-ghost use Rattle.std.specs.Prelude.{◌≡◌};
+ghost use Rattle.std.specs.Prelude.{◌≡◌, get_or};
 ghost use Rattle.tables1980.specs.Words.{◌ε◌};
 ghost use Rattle.tables1980.specs.Suffix.{suffix_words, suffix};
-ghost use Rattle.tables1980.specs.Prefix.{prefix_words, prefix};
+ghost use Rattle.tables1980.specs.Prefix.{prefix_words};
 ghost use Rattle.tables1980.specs.Pairs.{btable};
 
 // How many rows each of the two machines has.
@@ -20,7 +20,7 @@ const PAIR_ROWS: usize = 30;
 const WORD_BITS: u8 = 36;
 
 // Three octal digits for each field: opcode, truex, falsex, operand. The letter masks are read bit by bit.
-const SUFFIX: [u64; ROWS] = [
+static SUFFIX: [u64; ROWS] = [
     0o610_404_042_000, // 0, mask aeiouy
     0o005_000_000_000, // 1, a
     0o005_000_000_000, // 2, b
@@ -133,7 +133,7 @@ const SUFFIX: [u64; ROWS] = [
 ];
 
 // The same four fields; a table's letters stand in its last three.
-const PREFIX: [u64; ROWS] = [
+static PREFIX: [u64; ROWS] = [
     0o005_000_000_000, // 0, no letter
     0o004_000_000_000, // 1, a
     0o000_042_006_145, // 2, b
@@ -246,7 +246,7 @@ const PREFIX: [u64; ROWS] = [
 ];
 
 // The letters of a pair, then an octal digit for the row of its weak letters and one for h.
-const PAIRS: [u64; PAIR_ROWS] = [
+static PAIRS: [u64; PAIR_ROWS] = [
     0o0001010000_0_0, // 2, b
     0o0001010000_0_4, // 3, c
     0o0040010000_0_0, // 4, d
@@ -279,40 +279,24 @@ const PAIRS: [u64; PAIR_ROWS] = [
     0o0040602000_0_0, // 31, weak letters 5
 ];
 
-// The tables as values: a constant is built anew by every function that reads it, so whoever runs a machine asks for its table once and
-// lends it to the readers.
-pub fn suffix_table() -> [u64; ROWS]
-    ensures { result ≡ suffix_words }
+// The tables by name: whoever runs a machine reads its table in place, and a proof above sees the list's name and not its numbers.
+pub fn suffix_table() -> &'static [u64; ROWS]
+    ensures { result.now ≡ suffix_words }
 {
-    SUFFIX
+    &SUFFIX
 }
 
-pub fn prefix_table() -> [u64; ROWS]
-    ensures { result ≡ prefix_words }
+pub fn prefix_table() -> &'static [u64; ROWS]
+    ensures { result.now ≡ prefix_words }
 {
-    PREFIX
+    &PREFIX
 }
 
-// The suffix machine's word of a row, 0 past the table.
-pub fn suffix_word(words: &[u64; ROWS], row: usize) -> u64
-    requires { words.now ≡ suffix_words }
-    ensures { result ≡ suffix row }
+// The word of a row, 0 past the table. One reader for both machines: what it gives of each table is in proofs/Readers.antt.
+pub fn word_at(words: &[u64], row: usize) -> u64
+    ensures { result ≡ get_or words.now row 0 }
 {
-    if ROWS <= row {
-        return 0;
-    }
-    words[row]
-}
-
-// The prefix machine's word of a row, 0 past the table.
-pub fn prefix_word(words: &[u64; ROWS], row: usize) -> u64
-    requires { words.now ≡ prefix_words }
-    ensures { result ≡ prefix row }
-{
-    if ROWS <= row {
-        return 0;
-    }
-    words[row]
+    words.get(row).copied().unwrap_or(0)
 }
 
 // The mask of the vowels.
@@ -323,25 +307,19 @@ pub fn vowel_word() -> u64
 }
 
 // The pair table's word of a code, 0 where it has none.
+#[tactic(auto, unfolding(crate::specs::Pairs::btable, crate::specs::Pairs::pair_words))]
 pub fn pair_word(c: u8) -> u64
     ensures { result ≡ btable c }
 {
-    let at = c as usize;
-    if at < FIRST_PAIR {
-        return 0;
+    match (c as usize).checked_sub(FIRST_PAIR) {
+        Some(row) => word_at(&PAIRS, row),
+        None => 0,
     }
-    if PAIR_ROWS <= at - FIRST_PAIR {
-        return 0;
-    }
-    PAIRS[at - FIRST_PAIR]
 }
 
 // Is the bit at a place of a word set, bit 0 being the leading one?
 pub fn has_bit(word: u64, place: u8) -> bool
     ensures { result ≡ place ε word }
 {
-    if WORD_BITS <= place {
-        return false;
-    }
-    (word >> (WORD_BITS - 1 - place) as u64) % 2 == 1
+    place < WORD_BITS && (word >> (WORD_BITS - 1 - place) as u64) % 2 == 1
 }

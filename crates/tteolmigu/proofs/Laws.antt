@@ -9,7 +9,7 @@ use Rattle.states.specs.State.{read_state}
 use Rattle.states.specs.declared.TextState.{TextState}
 use Rattle.running.specs.Calls.{total_now, Pieces, piece_answer, piece_next, piece_room, Ends, end_answer, end_next, end_room, TextAnswer, written}
 use Rattle.running.specs.declared.Taken.{Taken}
-use Rattle.std.specs.Prelude.{Ok, Err}
+use Rattle.std.specs.Prelude.{Err}
 use Rattle.running.proofs.Order.{piece_ordered, end_ordered, computed}
 use Rattle.tteolmigu.specs.Bits.{told_bits, text_bits, bytes_left}
 

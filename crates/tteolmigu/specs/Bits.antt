@@ -5,12 +5,11 @@ use Rattle.base.specs.Grounds.{told, Said, Finds, Refuses, Check}
 use Rattle.base.specs.declared.Ground.{Ground}
 use Rattle.lookup.specs.declared.Located.{Located}
 use Rattle.lookup.specs.declared.Located.TheVariants.{Customer, House, Nowhere}
-use Rattle.hyphenation.specs.Calls.{Answer, found}
+use Rattle.hyphenation.specs.Calls.{Answer}
 use Rattle.states.specs.Bytes.{state_bytes}
 use Rattle.states.specs.declared.TextState.{TextState}
-use Rattle.running.specs.Calls.{TextAnswer, written}
-use Rattle.packer.specs.declared.Packing.{Packing}
-use Rattle.packer.specs.declared.Packing.TheVariants as packings
+use Rattle.running.specs.Calls.{TextAnswer}
+use Rattle.packer.specs.Pack.{Packing}
 
 -- A number, cut to its last `width` bits, as it stands from bit `low` on.
 abbrev pub bits_at : ℕ → ℕ → ℕ → ℕ
@@ -37,13 +36,13 @@ answer_bits (Err g) = refusal_bits g
 
 -- Pack: bits 0 to 47 the length.
 abbrev pub packing_bits : Packing → ℕ
-packing_bits (packings.Done size) = bits_at 0 48 size
-packing_bits (packings.Refused g) = refusal_bits g
+packing_bits (Ok size) = bits_at 0 48 size
+packing_bits (Err g) = refusal_bits g
 
 -- Check: all zero where the table is accepted.
 abbrev pub check_bits : Check → ℕ
-check_bits checks.Fine = 0
-check_bits (checks.Refused g) = refusal_bits g
+check_bits (Ok _) = 0
+check_bits (Err g) = refusal_bits g
 
 -- All zero where there is no line, and where the lookup's empty part stands for a refusal.
 abbrev pub located_bits : Located → ℕ

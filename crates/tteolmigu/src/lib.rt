@@ -15,11 +15,10 @@ ghost use Rattle.tteolmigu.specs.Bits.{bits_at, told_bits, refusal_bits, found_b
 
 use base::Ground;
 use gauge::{Fitting, Gauge};
-use hyphenation::Answer;
+use hyphenation::Found;
 use lookup::Located;
-use machine1980::Answer1980;
-use packer::Packing;
-use running::{Taken, TextAnswer};
+use machine1980::Reprint;
+use running::{Taken, Written};
 
 // The bits of a refusal's number, list and place.
 fn told_bits(number: usize, list: usize, place: usize) -> u64
@@ -74,7 +73,7 @@ fn answer_bits(answer: Result<Found, Ground>) -> u64
     ensures { result ≡ answer_bits answer }
 {
     match answer {
-        Answer::Found { marks, looks } => found_bits(marks, looks),
+        Ok(Found { marks, looks }) => found_bits(marks, looks),
         Err(g) => refusal_bits(g),
     }
 }
@@ -123,13 +122,22 @@ fn fitting_bits(outcome: usize, gap: usize) -> u64
     code * 4294967296 + low
 }
 
-fn fit_bits(fitting: Result<Fitting, Ground>) -> u64
-    ensures { result ≡ fit_bits (fit_said fitting) }
+// The bits of what fits.
+fn outcome_bits(fitting: Fitting) -> u64
+    ensures { result ≡ fit_bits (fit_said (Ok fitting)) }
 {
     match fitting {
         Fitting::Whole => fitting_bits(gauge::WHOLE_OUTCOME, 0),
         Fitting::Break(gap) => fitting_bits(gauge::BREAK_OUTCOME, gap),
         Fitting::Nowhere => fitting_bits(gauge::NONE_OUTCOME, 0),
+    }
+}
+
+fn fit_bits(answer: Result<Fitting, Ground>) -> u64
+    ensures { result ≡ fit_bits (fit_said answer) }
+{
+    match answer {
+        Ok(fitting) => outcome_bits(fitting),
         Err(g) => refusal_bits(g),
     }
 }
@@ -144,14 +152,23 @@ fn reprint_bits(outcome: usize, breaks: usize, executed: usize) -> u64
     high * 281474976710656 + middle * 4294967296 + low
 }
 
-fn bits_1980(answer: Result<Reprint, Ground>) -> u64
+// The bits of what the 1980 machine comes to.
+fn run_bits(found: Option<Reprint>) -> u64
+    ensures { result ≡ bits1980 (said1980 (Ok found)) }
+{
+    match found {
+        Some(Reprint { breaks, executed }) => {
+            reprint_bits(machine1980::ANSWERED_OUTCOME, breaks, executed)
+        }
+        None => reprint_bits(machine1980::RAN_OUT_OUTCOME, 0, 0),
+    }
+}
+
+fn bits_1980(answer: Result<Option<Reprint>, Ground>) -> u64
     ensures { result ≡ bits1980 (said1980 answer) }
 {
     match answer {
-        Answer1980::Found { breaks, executed } => {
-            reprint_bits(machine1980::ANSWERED_OUTCOME, breaks, executed)
-        }
-        Answer1980::RanOut => reprint_bits(machine1980::RAN_OUT_OUTCOME, 0, 0),
+        Ok(found) => run_bits(found),
         Err(g) => refusal_bits(g),
     }
 }
@@ -170,10 +187,12 @@ fn put_taken(taken: Taken, state: &mut [u8; states::STATE_SIZE]) -> u64
     ensures bits { result ≡ text_bits taken.answer }
     ensures state { state.new ≡ bytes_left taken.answer state.old taken.state }
 {
-    let next = taken.state;
-    let answer = taken.answer;
+    let Taken {
+        state: next,
+        answer,
+    } = taken;
     match answer {
-        TextAnswer::Written { length, looks } => {
+        Ok(Written { length, looks }) => {
             states::put_bytes(next, state);
             written_bits(length, looks)
         }

@@ -1,14 +1,15 @@
 -- One law for each way through the code, and how long what is written may be.
 use Prim.Native.Nat.{ℕ, zero, suc, ◌+◌, ◌*◌, ◌-◌, ◌/◌, ◌≤◌, ◌<◌}
 use mathlib.Core.Bool.{Bool, true, false, cond}
-use mathlib.Core.List.{List, [], ◌∷◌, ◌++◌}
-use mathlib.Core.Path.{◌≡◌, refl, ap}
+use mathlib.Core.List.{List, [], ◌∷◌, ◌++◌, append_assoc}
+use mathlib.Core.Path.{◌≡◌, refl, sym, ◌∙◌, ap}
 use native.Mathlib.Nat.{mul-suc}
 use native.Mathlib.Omega.{arith}
 use borrow.Author.Tests.{eq-eqb, ne_eqb, lt-ltb, le-ltb}
 use lib.Dec.{eqb, ltb}
-use lib.ListN.{length, get_or, drop, length-append, drop_of_length-le}
-use Rattle.base.proofs.Lists.{cons_at}
+use lib.ListN.{length, take, drop, length-append}
+use lib.Seq.{drop-drop, sets-eq}
+use borrow.Rule.Slice.PartMut.{put_mid}
 use Rattle.writing.specs.Put.{Put}
 use Rattle.writing.specs.Writing.{space, last_digit, digits, decimal, field, counted, letter_with, hyphenated}
 use Rattle.writing.proofs.Going.{Going, go_fits, go_step, first_fits, second_fits, both_put}
@@ -81,31 +82,33 @@ module _ (sign : List ℕ) (mark b at : ℕ) (room : List ℕ) (z : mark ≡ 0 �
     pub letter_put : {next : ℕ} {after : List ℕ} → Put (b ∷ []) end now next after → Put (letter_with sign mark b) at room next after
     letter_put = both_put sign (b ∷ []) (letter_marked sign mark b z) at room h p
 
--- a word
-word_turn : (sign marks word : List ℕ) (i : ℕ) → i < length word → length word ≤ length marks
-    → hyphenated sign (drop i marks) (drop i word) ≡ letter_with sign (get_or marks i 0) (get_or word i 0) ++ hyphenated sign (drop (i + 1) marks) (drop (i + 1) word)
+-- a word, where these marks and letters are left
+module _ (sign : List ℕ) {left word : List ℕ} (mark b : ℕ) (marks letters : List ℕ) (e : left ≡ mark ∷ marks) (f : word ≡ b ∷ letters) where
+  word_turn : hyphenated sign left word ≡ letter_with sign mark b ++ hyphenated sign marks letters
+  unfolding hyphenated
+  word_turn = rw (e, f)
+
+  pub marks_enough : length word ≤ length left → length letters ≤ length marks
+  marks_enough h = omega (arith, h, ap length e, ap length f)
+
+  module _ {whole : List ℕ} {at : ℕ} {room : List ℕ} {end : ℕ} (now : List ℕ) (g : Going whole at room (hyphenated sign left word) end now) where
+    pub word_fits : end + length (letter_with sign mark b) ≤ length now
+    word_fits = go_fits now (letter_with sign mark b) (hyphenated sign marks letters) word_turn g
+
+    pub word_step : {next : ℕ} {after : List ℕ} → Put (letter_with sign mark b) end now next after → Going whole at room (hyphenated sign marks letters) next after
+    word_step = go_step now (letter_with sign mark b) (hyphenated sign marks letters) word_turn g
+
+pub word_end : (sign marks word : List ℕ) → length word ≡ 0 → hyphenated sign marks word ≡ []
 unfolding hyphenated
-word_turn sign marks word i h k = rw (cons_at marks i (omega arith), cons_at word i h)
-
-module _ (sign marks word : List ℕ) (i : ℕ) (h : i < length word) (k : length word ≤ length marks) {whole : List ℕ} {at : ℕ} {room : List ℕ} {end : ℕ} (now : List ℕ)
-    (g : Going whole at room (hyphenated sign (drop i marks) (drop i word)) end now) where
-  pub word_fits : end + length (letter_with sign (get_or marks i 0) (get_or word i 0)) ≤ length now
-  word_fits = go_fits now (letter_with sign (get_or marks i 0) (get_or word i 0)) (hyphenated sign (drop (i + 1) marks) (drop (i + 1) word)) (word_turn sign marks word i h k) g
-
-  pub word_step : {next : ℕ} {after : List ℕ} → Put (letter_with sign (get_or marks i 0) (get_or word i 0)) end now next after → Going whole at room (hyphenated sign (drop (i + 1) marks) (drop (i + 1) word)) next after
-  word_step = go_step now (letter_with sign (get_or marks i 0) (get_or word i 0)) (hyphenated sign (drop (i + 1) marks) (drop (i + 1) word)) (word_turn sign marks word i h k) g
-
-pub word_end : (sign marks word : List ℕ) (i : ℕ) → length word ≤ i → hyphenated sign marks (drop i word) ≡ []
-unfolding hyphenated
-word_end sign marks word i h = rw (drop_of_length-le word h)
+word_end sign marks [] h = refl
+word_end sign marks (b ∷ word) h = absurd (omega (arith, h))
 
 -- a text
-module _ (text : List ℕ) (i : ℕ) (h : i < length text) {whole : List ℕ} {at : ℕ} {room : List ℕ} {end : ℕ} (now : List ℕ) (g : Going whole at room (drop i text) end now) where
-  pub text_fits : end + 1 ≤ length now
-  text_fits = go_fits now (get_or text i 0 ∷ []) (drop (i + 1) text) (cons_at text i h) g
-
-  pub text_step : {next : ℕ} {after : List ℕ} → Put (get_or text i 0 ∷ []) end now next after → Going whole at room (drop (i + 1) text) next after
-  text_step = go_step now (get_or text i 0 ∷ []) (drop (i + 1) text) (cons_at text i h) g
+pub text_put : (text : List ℕ) (at : ℕ) (room : List ℕ) → at + length text ≤ length room → {part : List ℕ} → part ≡ text
+    → Put text at room (at + length text) (put_mid at (at + length text - at) room part)
+text_put text at room h e =
+    let n : at + length text - at ≡ length text = omega arith in
+    record { fits = h; ends = refl; memory = rw (e, n, drop-drop (length text) at room) (sym (sets-eq text room at h ∙ append_assoc (take at room) text (drop (at + length text) room))) }
 
 -- of two lists, whichever it is, neither is longer
 pub either_short : (b : Bool) (x y : List ℕ) (n : ℕ) → length x ≤ n → length y ≤ n → length (cond b x y) ≤ n

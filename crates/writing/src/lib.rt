@@ -28,12 +28,8 @@ pub fn put_text(text: &[u8], room: &mut [u8], at: usize) -> usize
     requires { at + length text.now ≤ length room.old }
     ensures { Put text.now at room.old result room.new }
 {
-    let mut end = at;
-    let mut i = 0;
-    while i < text.len() {
-        end = put_byte(text[i], room, end);
-        i += 1;
-    }
+    let end = at + text.len();
+    room[at..end].copy_from_slice(text);
     end
 }
 
@@ -97,10 +93,8 @@ pub fn put_hyphenated(sign: &[u8], marks: &[u8], word: &[u8], room: &mut [u8], a
     ensures { Put (hyphenated sign.now marks.now word.now) at room.old result room.new }
 {
     let mut end = at;
-    let mut i = 0;
-    while i < word.len() {
-        end = put_letter(sign, marks[i], word[i], room, end);
-        i += 1;
+    for (mark, b) in marks.iter().zip(word) {
+        end = put_letter(sign, *mark, *b, room, end);
     }
     end
 }

@@ -1,4 +1,4 @@
--- No entry with a number below `k` holds the three numbers; the number of entries left falls.
+-- No entry with a number below `k` holds the three numbers.
 use Prim.Native.Nat.{suc, ◌≤◌, ◌*◌, ◌-◌}
 use mathlib.Core.Path.{◌≡◌}
 use lib.ListN.{length}
@@ -9,6 +9,3 @@ use Rattle.entering.proofs.find_entry.Given as goal
 
 abbrev pub invariant-loop-k : goal.invariant-loop-k
 invariant-loop-k l = (1 ≤ l.k) × (l.k ≤ suc l.count) × (entry_size * l.count ≤ length l.bytes) × (l.count ≤ entry_limit) × (find_entry l.bytes l.distance l.level l.next 1 l.count ≡ find_entry l.bytes l.distance l.level l.next l.k (suc l.count - l.k))
-
-abbrev pub decreases-loop-k : goal.decreases-loop-k
-decreases-loop-k l = suc l.count - l.k

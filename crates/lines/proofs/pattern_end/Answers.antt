@@ -35,8 +35,8 @@ returns-then-not-digits c = law.end_bad _ (law.patterned_digitless _ _ _ _ _ _ _
 pub returns-then-count-gt-PATTERN_LIMIT : goal.returns-then-count-gt-PATTERN_LIMIT
 returns-then-count-gt-PATTERN_LIMIT c = law.end_bad _ (law.patterned_long _ _ _ _ _ _ _ _ _ c.loop-i.invariant c.loop-i-test.true (sym c.is_small.ensures ∙ c.if-is_small.false) (sym c.is_digit.ensures ∙ c.if-is_digit.false) c.if-b-eq-DOT.false c.if-b-eq-APOSTROPHE.false c.if-b-ne-LINE_FEED.false c.if-not-letters.false-raw c.if-not-digits.false-raw c.if-count-gt-PATTERN_LIMIT.true)
 
-pub returns-else-b-eq-APOSTROPHE : goal.returns-else-b-eq-APOSTROPHE
-returns-else-b-eq-APOSTROPHE c = law.patterned_whole _ _ _ _ _ _ _ _ _ c.loop-i.invariant c.loop-i-test.true (sym c.is_small.ensures ∙ c.if-is_small.false) (sym c.is_digit.ensures ∙ c.if-is_digit.false) c.if-b-eq-DOT.false c.if-b-eq-APOSTROPHE.false c.if-b-ne-LINE_FEED.false c.if-not-letters.false-raw c.if-not-digits.false-raw c.if-count-gt-PATTERN_LIMIT.false c.end_if_fit.ensures
+pub returns-in-loop-i : goal.returns-in-loop-i
+returns-in-loop-i c = law.patterned_whole _ _ _ _ _ _ _ _ _ c.loop-i.invariant c.loop-i-test.true (sym c.is_small.ensures ∙ c.if-is_small.false) (sym c.is_digit.ensures ∙ c.if-is_digit.false) c.if-b-eq-DOT.false c.if-b-eq-APOSTROPHE.false c.if-b-ne-LINE_FEED.false c.if-not-letters.false-raw c.if-not-digits.false-raw c.if-count-gt-PATTERN_LIMIT.false c.end_if_fit.ensures
 
 pub returns : goal.returns
 returns c = law.end_bad _ (law.patterned_out _ _ _ _ _ _ _ _ _ c.loop-i.invariant c.loop-i-test.false)

@@ -12,22 +12,22 @@ pub returns-in_default : goal.returns-in_default
 returns-in_default c = sym (c.loop-at.invariant.2 ∙ line_bad _ _ _ c.good_end-found.ensures _ c.loop-at-test.true c.in_default.is)
 
 pub slice_bounds-ascends-count-in-loop-at : goal.slice_bounds-ascends-count-in-loop-at
-slice_bounds-ascends-count-in-loop-at c = omega (arith, line_starts _ _ _ c.loop-at-test.true (found_end _ _ _ c.good_end-found.ensures c.in-At.is))
+slice_bounds-ascends-count-in-loop-at c = omega (arith, line_starts _ _ _ c.loop-at-test.true (found_end _ _ _ c.good_end-found.ensures c.in-Some.is))
 
 pub slice_bounds-ascends-start-in-loop-at : goal.slice_bounds-ascends-start-in-loop-at
-slice_bounds-ascends-start-in-loop-at c = omega (arith, line_starts _ _ _ c.loop-at-test.true (found_end _ _ _ c.good_end-found.ensures c.in-At.is))
+slice_bounds-ascends-start-in-loop-at c = omega (arith, line_starts _ _ _ c.loop-at-test.true (found_end _ _ _ c.good_end-found.ensures c.in-Some.is))
 
 pub slice_bounds-ascends-end-in-loop-at : goal.slice_bounds-ascends-end-in-loop-at
-slice_bounds-ascends-end-in-loop-at c = line_ends _ _ _ c.loop-at-test.true (found_end _ _ _ c.good_end-found.ensures c.in-At.is)
+slice_bounds-ascends-end-in-loop-at c = line_ends _ _ _ c.loop-at-test.true (found_end _ _ _ c.good_end-found.ensures c.in-Some.is)
 
 pub returns-then-not-ascends : goal.returns-then-not-ascends
-returns-then-not-ascends c = sym (c.loop-at.invariant.2 ∙ line_low _ _ _ c.good_end-found.ensures _ c.loop-at-test.true c.in-At.is (sym c.ascends.ensures ∙ c.if-not-ascends.true))
+returns-then-not-ascends c = sym (c.loop-at.invariant.2 ∙ line_low _ _ _ c.good_end-found.ensures _ c.loop-at-test.true c.in-Some.is (sym c.ascends.ensures ∙ c.if-not-ascends.true))
 
 pub loop-at-smaller : goal.loop-at-smaller
-loop-at-smaller c = omega (arith, line_starts _ _ _ c.loop-at-test.true (found_end _ _ _ c.good_end-found.ensures c.in-At.is))
+loop-at-smaller c = omega (arith, line_starts _ _ _ c.loop-at-test.true (found_end _ _ _ c.good_end-found.ensures c.in-Some.is))
 
 pub loop-at-preserved : goal.loop-at-preserved
-loop-at-preserved c = (omega (arith, line_starts _ _ _ c.loop-at-test.true (found_end _ _ _ c.good_end-found.ensures c.in-At.is)), line_ends _ _ _ c.loop-at-test.true (found_end _ _ _ c.good_end-found.ensures c.in-At.is), c.loop-at.invariant.2 ∙ line_good _ _ _ c.good_end-found.ensures _ c.loop-at-test.true c.in-At.is (sym c.ascends.ensures ∙ c.if-not-ascends.false))
+loop-at-preserved c = (omega (arith, line_starts _ _ _ c.loop-at-test.true (found_end _ _ _ c.good_end-found.ensures c.in-Some.is)), line_ends _ _ _ c.loop-at-test.true (found_end _ _ _ c.good_end-found.ensures c.in-Some.is), c.loop-at.invariant.2 ∙ line_good _ _ _ c.good_end-found.ensures _ c.loop-at-test.true c.in-Some.is (sym c.ascends.ensures ∙ c.if-not-ascends.false))
 
 pub returns : goal.returns
 returns c = sym (c.loop-at.invariant.2 ∙ lines_end _ _ _ _ c.loop-at-test.false)

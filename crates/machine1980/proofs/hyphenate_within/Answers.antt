@@ -1,3 +1,4 @@
+use Rattle.std.specs.Prelude.{Ok}
 use Rattle.base.proofs.Grounds.{handed_on}
 use Rattle.machine1980.proofs.Order.{sizes, refused, found}
 use Rattle.machine1980.proofs.hyphenate_within.Goals as goal
@@ -13,4 +14,4 @@ find_breaks-requires c = sizes _ _ c.judge_1980.ensures c.in_ok-judge_1980.was
 pub returns : goal.returns
 returns c =
     let k = c.args in
-    found k.budget k.word.now k.room.now c.judge_1980.ensures c.find_breaks.result _ c.in_ok-judge_1980.was c.find_breaks.ensures
+    found k.budget k.word.now k.room.now c.judge_1980.ensures (Ok c.find_breaks.result) _ c.in_ok-judge_1980.was c.find_breaks.ensures

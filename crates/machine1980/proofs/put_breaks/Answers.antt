@@ -28,7 +28,7 @@ loop-gap-preserved c =
       simp length-set l.invariant.2,
       l.invariant.3,
       put_turn room_size1980 broken l.gap _ l.invariant.4 l.invariant.3 (omega (arith, c.loop-gap-test.true, c.requires.0))
-          (law.break_here c.args.n c.args.finale c.args.sheet.now l.gap l.invariant.0 c.loop-gap-test.true c.is_shown.ensures c.bit_of.ensures),
+          (law.break_here c.args.n c.args.finale c.args.sheet.now l.gap l.invariant.0 c.loop-gap-test.true c.is_shown.ensures c.from.ensures),
     )
 
 pub returns : goal.returns

@@ -20,13 +20,13 @@ run_machine-requires c =
 pub put_breaks-requires : goal.put_breaks-requires
 put_breaks-requires c = (letters_fit word_limit1980 c.args.word.now c.requires.0, c.requires.3)
 
-pub returns-in-Out : goal.returns-in-Out
-returns-in-Out c =
+pub returns-in_err-made : goal.returns-in_err-made
+returns-in_err-made c =
     let r = c.run_machine in
-    law.out_answered c.args.budget c.args.word.now c.args.room.now c.requires.1 r.result _ c.write_word.ensures r.ensures c.in-Out.is
+    rw c.from_residual.ensures (law.out_answered c.args.budget c.args.word.now c.args.room.now c.requires.1 r.result _ c.write_word.ensures r.ensures c.in_err-made.was)
 
-pub returns-in-Made : goal.returns-in-Made
-returns-in-Made c =
+pub returns : goal.returns
+returns c =
     let r = c.run_machine in
-    law.made_answered c.args.budget c.args.word.now c.args.room.now c.requires.1 r.result _ c.write_word.ensures r.ensures _ _ c.in-Made.is
-    c.put_breaks.ensures c.count_marks-breaks.ensures
+    law.made_answered c.args.budget c.args.word.now c.args.room.now c.requires.1 r.result _ c.write_word.ensures r.ensures _ c.in_ok-made.was
+    c.put_breaks.ensures c.count_marks.ensures

@@ -1,4 +1,4 @@
--- The marked symbols below `symbol` have free cells; the number of symbols left falls.
+-- The marked symbols below `symbol` have free cells.
 use Prim.Native.Nat.{suc, ◌≤◌, ◌<◌, ◌+◌, ◌-◌}
 use mathlib.Core.Bool.{not, ◌||◌}
 use mathlib.Core.Path.{◌≡◌}
@@ -11,6 +11,3 @@ use Rattle.placing.proofs.are_usable.Given as goal
 
 abbrev pub invariant-loop-symbol : goal.invariant-loop-symbol
 invariant-loop-symbol l = (l.symbol ≤ suc symbol_limit) × (symbol_limit < length l.mask) × (all_from (λ s. not (marked l.mask s) || is_free l.cells (l.base + s)) 1 symbol_limit ≡ all_from (λ s. not (marked l.mask s) || is_free l.cells (l.base + s)) l.symbol (suc symbol_limit - l.symbol))
-
-abbrev pub decreases-loop-symbol : goal.decreases-loop-symbol
-decreases-loop-symbol l = suc symbol_limit - l.symbol

@@ -1,4 +1,4 @@
--- The marked symbols below `symbol` have cells below the limit; the number of symbols left falls.
+-- The marked symbols below `symbol` have cells below the limit.
 use Prim.Native.Nat.{suc, ◌≤◌, ◌<◌, ◌+◌, ◌-◌}
 use mathlib.Core.Bool.{not, ◌||◌}
 use mathlib.Core.Path.{◌≡◌}
@@ -12,6 +12,3 @@ use Rattle.placing.proofs.is_inside.Given as goal
 
 abbrev pub invariant-loop-symbol : goal.invariant-loop-symbol
 invariant-loop-symbol l = (l.symbol ≤ suc symbol_limit) × (symbol_limit < length l.mask) × (inside (marked l.mask) l.base ≡ all_from (λ s. not (marked l.mask s) || ltb (l.base + s) cell_limit) l.symbol (suc symbol_limit - l.symbol))
-
-abbrev pub decreases-loop-symbol : goal.decreases-loop-symbol
-decreases-loop-symbol l = suc symbol_limit - l.symbol

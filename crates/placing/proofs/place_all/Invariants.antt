@@ -1,4 +1,4 @@
--- The paths of fewer than `m` symbols are placed; the limit less `m` falls.
+-- The paths of fewer than `m` symbols are placed.
 use Prim.Native.Nat.{◌≤◌, ◌-◌}
 use mathlib.Core.Path.{◌≡◌}
 use Rattle.base.specs.Limits.{pattern_limit}
@@ -9,6 +9,3 @@ use Rattle.placing.proofs.place_all.Given as goal
 
 abbrev pub invariant-loop-m : goal.invariant-loop-m
 invariant-loop-m l = (l.m ≤ pattern_limit) × Sized l.cells l.taken × (place_list l.root (patterns_of l.text) (Fits l.initial.cells l.initial.taken) ≡ place_lengths l.root l.m (pattern_limit - l.m) (patterns_of l.text) (Fits l.cells l.taken))
-
-abbrev pub decreases-loop-m : goal.decreases-loop-m
-decreases-loop-m l = pattern_limit - l.m

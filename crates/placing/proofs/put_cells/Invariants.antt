@@ -1,4 +1,4 @@
--- The marked symbols below `symbol` have their cells; the number of symbols left falls.
+-- The marked symbols below `symbol` have their cells.
 use Prim.Native.Nat.{suc, ◌≤◌, ◌-◌}
 use mathlib.Core.Path.{◌≡◌}
 use lib.ListN.{length}
@@ -9,6 +9,3 @@ use Rattle.placing.proofs.put_cells.Given as goal
 
 abbrev pub invariant-loop-symbol : goal.invariant-loop-symbol
 invariant-loop-symbol l = (l.symbol ≤ suc symbol_limit) × (length l.cells ≡ length l.initial.cells) × (put_cells (marked l.mask) l.base 1 symbol_limit l.initial.cells ≡ put_cells (marked l.mask) l.base l.symbol (suc symbol_limit - l.symbol) l.cells)
-
-abbrev pub decreases-loop-symbol : goal.decreases-loop-symbol
-decreases-loop-symbol l = suc symbol_limit - l.symbol

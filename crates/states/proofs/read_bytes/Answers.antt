@@ -8,4 +8,4 @@ pub returns-then-bytes-ne0-2 : goal.returns-then-bytes-ne0-2
 returns-then-bytes-ne0-2 c = read_seventh c.args.bytes.now c.if-bytes-ne0.false c.if-bytes-ne0-2.true c.new_text-then-bytes-ne0-2.ensures
 
 pub returns : goal.returns
-returns c = read_all c.args.bytes.now c.requires c.if-bytes-ne0.false c.if-bytes-ne0-2.false c.copy_to.ensures c.read_total.ensures
+returns c = read_all c.args.bytes.now c.requires c.if-bytes-ne0.false c.if-bytes-ne0-2.false c.copy_from_slice.ensures.after c.read_total.ensures

@@ -1,45 +1,31 @@
-use borrow.Author.Rules.{rules}
-use mathlib.Core.Path.{refl}
-use Rattle.suffix1980.proofs.Going.{start, stopped, kept, out, low, high, turned}
+use mathlib.Core.Path.{refl, ◌∙◌}
+use native.Mathlib.Omega.{arith}
+use Rattle.tables1980.proofs.Readers.{suffix_word}
+use Rattle.suffix1980.proofs.Going.{start, out, turned, stopped, kept}
 use Rattle.suffix1980.proofs.remove_suffixes.Goals as goal
 
-pub loop-turn-init : goal.loop-turn-init
-loop-turn-init c =
-    (start c.args.budget c.args.n c.args.sheet.now c.requires.2 c.requires.0 refl c.code_at-first.ensures c.final_at-last.ensures, refl)
+pub loop-left-init : goal.loop-left-init
+loop-left-init c = start c.args.budget c.args.n c.args.sheet.now c.requires.2 c.requires.0 refl c.code_at-pc.ensures c.final_at.ensures
 
-pub returns-in-Done : goal.returns-in-Done
-returns-in-Done c =
+pub returns-in_err-left-clause-answer : goal.returns-in_err-left-clause-answer
+returns-in_err-left-clause-answer c =
     let k = c.args in
-    let l = c.loop-turn in
-    let e = c.in-Done.is in
-    record { answer = stopped k.budget k.n k.sheet.now l.left _ l.sheet e l.invariant.0; kept = kept k.budget k.n k.sheet.now l.left _ l.sheet e l.invariant.0 }
+    let l = c.loop-left in
+    rw c.from_residual.ensures (out k.budget k.n k.sheet.now l.left l.row l.sheet l.invariant (omega arith))
 
-pub returns-then-left-eq0 : goal.returns-then-left-eq0
-returns-then-left-eq0 c =
+pub returns-in-Break : goal.returns-in-Break
+returns-in-Break c =
     let k = c.args in
-    let l = c.loop-turn in
-    record { answer = out k.budget k.n k.sheet.now l.left _ _ _ _ l.sheet c.in-Row.is c.if-left-eq0.true l.invariant.0; kept = tt }
+    let l = c.loop-left in
+    let word = c.word_at.ensures ∙ suffix_word _ _ c.suffix_table.ensures in
+    record {
+      answer = stopped k.budget k.n k.sheet.now l.left l.row l.sheet l.invariant (omega arith) word c.from-x.ensures _ _ c.in-Break.ensures;
+      kept = kept k.budget k.n k.sheet.now l.left l.row l.sheet l.invariant {more = c.in_ok-left.left} (omega arith) word c.from-x.ensures _ _ c.in-Break.ensures;
+    }
 
-pub suffix_word-requires : goal.suffix_word-requires
-suffix_word-requires c = c.suffix_table-words.ensures
-
-pub interpret-turn-requires : goal.interpret-turn-requires
-interpret-turn-requires c =
-    let l = c.loop-turn in
-    let e = c.in-Row.is in (
-      c.requires.0,
-      c.requires.1,
-      low c.args.budget c.args.n c.args.sheet.now l.left _ _ _ _ l.sheet l.turn e l.invariant.0,
-      high c.args.budget c.args.n c.args.sheet.now l.left _ _ _ _ l.sheet l.turn e l.invariant.0,
-      c.suffix_table-words.ensures,
-    )
-
-pub loop-turn-preserved : goal.loop-turn-preserved
-loop-turn-preserved c =
+pub loop-left-preserved : goal.loop-left-preserved
+loop-left-preserved c =
     let k = c.args in
-    let l = c.loop-turn in
-    let r = c.interpret-turn in (
-      turned k.budget k.n k.sheet.now l.left _ _ _ _ l.sheet l.turn c.in-Row.is l.invariant.0 r.result _
-          c.if-left-eq0.false c.suffix_word.ensures c.take_apart-x.ensures r.ensures,
-      search rules,
-    )
+    let l = c.loop-left in
+    let word = c.word_at.ensures ∙ suffix_word _ _ c.suffix_table.ensures in
+    turned k.budget k.n k.sheet.now l.left l.row l.sheet l.invariant (omega arith) word c.from-x.ensures _ _ c.in-Continue.ensures

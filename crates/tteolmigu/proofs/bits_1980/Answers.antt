@@ -3,14 +3,9 @@ use Rattle.machine1980.specs.Calls.{said1980, Answer1980}
 use Rattle.tteolmigu.specs.Bits.{bits1980}
 use Rattle.tteolmigu.proofs.bits_1980.Goals as goal
 
-pub returns-in-Found : goal.returns-in-Found
-unfolding said1980
-returns-in-Found c = c.reprint_bits.ensures ∙ ap (λ (a : Answer1980). bits1980 (said1980 a)) (sym c.in-Found.is)
+pub returns-in-Ok : goal.returns-in-Ok
+returns-in-Ok c = c.run_bits.ensures ∙ ap (λ (a : Answer1980). bits1980 (said1980 a)) (sym c.in-Ok.is)
 
-pub returns-in-RanOut : goal.returns-in-RanOut
+pub returns-in-Err : goal.returns-in-Err
 unfolding said1980
-returns-in-RanOut c = c.reprint_bits-in-RanOut.ensures ∙ ap (λ (a : Answer1980). bits1980 (said1980 a)) (sym c.in-RanOut.is)
-
-pub returns-in-Refused : goal.returns-in-Refused
-unfolding said1980
-returns-in-Refused c = c.refusal_bits.ensures ∙ ap (λ (a : Answer1980). bits1980 (said1980 a)) (sym c.in-Refused.is)
+returns-in-Err c = c.refusal_bits.ensures ∙ ap (λ (a : Answer1980). bits1980 (said1980 a)) (sym c.in-Err.is)

@@ -2,5 +2,5 @@ use Rattle.tteolmigu.specs.Bits.{check_bits}
 use mathlib.Core.Path.{◌∙◌, ap, sym}
 use Rattle.tteolmigu.proofs.check_bits.Goals as goal
 
-pub returns-in-Refused : goal.returns-in-Refused
-returns-in-Refused c = c.refusal_bits.ensures ∙ ap check_bits (sym c.in-Refused.is)
+pub returns-in-Err : goal.returns-in-Err
+returns-in-Err c = c.refusal_bits.ensures ∙ ap check_bits (sym c.in-Err.is)

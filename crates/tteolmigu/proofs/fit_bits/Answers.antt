@@ -1,21 +1,14 @@
 use Rattle.tteolmigu.specs.Bits.{fit_bits}
+use Rattle.base.specs.declared.Ground.{Ground}
 use Rattle.gauge.specs.Fit.{fit_said}
 use Rattle.gauge.specs.declared.Fitting.{Fitting}
+use Rattle.std.specs.Prelude.{Result}
 use mathlib.Core.Path.{◌∙◌, ap, sym}
 use Rattle.tteolmigu.proofs.fit_bits.Goals as goal
 
-pub returns-in-Whole : goal.returns-in-Whole
-unfolding fit_said
-returns-in-Whole c = c.fitting_bits.ensures ∙ ap (λ (f : Fitting). fit_bits (fit_said f)) (sym c.in-Whole.is)
+pub returns-in-Ok : goal.returns-in-Ok
+returns-in-Ok c = c.outcome_bits.ensures ∙ ap (λ (f : Result Fitting Ground). fit_bits (fit_said f)) (sym c.in-Ok.is)
 
-pub returns-in-Break : goal.returns-in-Break
+pub returns-in-Err : goal.returns-in-Err
 unfolding fit_said
-returns-in-Break c = c.fitting_bits-in-Break.ensures ∙ ap (λ (f : Fitting). fit_bits (fit_said f)) (sym c.in-Break.is)
-
-pub returns-in-Nowhere : goal.returns-in-Nowhere
-unfolding fit_said
-returns-in-Nowhere c = c.fitting_bits-in-Nowhere.ensures ∙ ap (λ (f : Fitting). fit_bits (fit_said f)) (sym c.in-Nowhere.is)
-
-pub returns-in-Refused : goal.returns-in-Refused
-unfolding fit_said
-returns-in-Refused c = c.refusal_bits.ensures ∙ ap (λ (f : Fitting). fit_bits (fit_said f)) (sym c.in-Refused.is)
+returns-in-Err c = c.refusal_bits.ensures ∙ ap (λ (f : Result Fitting Ground). fit_bits (fit_said f)) (sym c.in-Err.is)

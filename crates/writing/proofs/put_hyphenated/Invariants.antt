@@ -1,12 +1,12 @@
--- Of the word with its breaks, the letters from i on are still to be put; their number falls.
-use Prim.Native.Nat.{◌≤◌, ◌-◌}
-use lib.ListN.{length, drop}
+-- Of the word with its breaks, the letters not passed are still to be put.
+use Rattle.std.proofs.Common.{◌≤◌, length}
+use Rattle.std.specs.Slice.Iter.{iter_rest}
+use Rattle.std.specs.Iterator.Adapters.{zip_first, zip_second}
 use Rattle.writing.specs.Writing.{hyphenated}
 use Rattle.writing.proofs.Going.{Going}
 use Rattle.writing.proofs.put_hyphenated.Given as goal
 
-abbrev pub invariant-loop-i : goal.invariant-loop-i
-invariant-loop-i l = (l.i ≤ length l.word) × (length l.word ≤ length l.marks) × Going (hyphenated l.sign l.marks l.word) l.at l.initial.room (hyphenated l.sign (drop l.i l.marks) (drop l.i l.word)) l.end l.room
-
-abbrev pub decreases-loop-i : goal.decreases-loop-i
-decreases-loop-i l = length l.word - l.i
+abbrev pub invariant-loop-mark : goal.invariant-loop-mark
+invariant-loop-mark l =
+    (length (iter_rest (zip_second l.mark-iterator)) ≤ length (iter_rest (zip_first l.mark-iterator)))
+    × Going (hyphenated l.sign l.marks l.word) l.at l.initial.room (hyphenated l.sign (iter_rest (zip_first l.mark-iterator)) (iter_rest (zip_second l.mark-iterator))) l.end l.room

@@ -1,5 +1,0 @@
-use Rattle.suffix1980.proofs.Laws as law
-use Rattle.suffix1980.proofs.is_in_mask.Goals as goal
-
-pub returns : goal.returns
-returns c = search law.masked
