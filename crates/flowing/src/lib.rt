@@ -178,10 +178,8 @@ pub fn take_bytes(
     ensures { Flows setting.now.left setting.now.right setting.now.customer.now setting.now.house.now setting.now.table.now piece.now f held.old room.old result held.new room.new }
 {
     let mut next = f;
-    let mut i = 0;
-    while i < piece.len() {
-        next = take_byte(setting, piece[i], held, room, next);
-        i += 1;
+    for b in piece {
+        next = take_byte(setting, *b, held, room, next);
     }
     next
 }
