@@ -69,7 +69,8 @@ fn make_space<B: Breaker>(rt: &HostRuntime, out: &[u8], s: State) -> State
     s
 }
 
-// The line has ended: its word's line is made ready.
+// The line has ended: its word's line is made ready. The three rooms are lent one by one, since a lent slice keeps its length by itself;
+// of a struct of them each call would have to promise it.
 fn end_line<B: Breaker>(
     rt: &HostRuntime,
     breaker: &B,
