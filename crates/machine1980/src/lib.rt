@@ -96,10 +96,9 @@ fn put_breaks(n: usize, finale: usize, sheet: &[u8], room: &mut [u8])
     ensures { room.new ≡ written room_size1980 (break_sheet n finale sheet.now) room.old }
 {
     rooms::clear_from(room, 0, base::ROOM_SIZE_1980);
-    let mut gap = FIRST_GAP;
-    while gap + LAST_LETTERS <= n {
+    let end = (n + 1).saturating_sub(LAST_LETTERS);
+    for gap in FIRST_GAP..end {
         room[gap] = u8::from(is_shown(finale, sheet, gap + 1));
-        gap += 1;
     }
 }
 

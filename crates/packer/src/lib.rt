@@ -31,13 +31,12 @@ fn used_cells(cells: &[u8]) -> usize
     ensures lower_bound { (1 ≤ result) × (result ≤ cell_limit) }
 {
     let mut used: usize = 1;
-    let mut n: usize = 0;
-    while n < base::CELL_LIMIT {
+    for n in 0..base::CELL_LIMIT {
         let symbol = cells[table::CELL_SIZE * n + 1];
-        n += 1;
-        if symbol != 0 {
-            used = n;
+        if symbol == 0 {
+            continue;
         }
+        used = n + 1;
     }
     used
 }
@@ -47,9 +46,7 @@ fn put_kinds(cells: &mut [u8], count: usize)
     requires { (cell_size * count ≤ length cells.old) × (count ≤ cell_limit) }
     ensures { cells.new ≡ put_kinds count cells.old }
 {
-    let mut n = count;
-    while 0 < n {
-        n -= 1;
+    for n in (0..count).rev() {
         cells[table::CELL_SIZE * n] = table::CELL_KIND;
     }
 }

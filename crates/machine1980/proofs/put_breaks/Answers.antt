@@ -24,11 +24,11 @@ loop-gap-preserved c =
     let l = c.loop-gap in
     let broken = is_break c.args.n c.args.finale c.args.sheet.now in (
       search rules,
-      omega (arith, c.loop-gap-test.true, c.requires.0),
+      omega (arith, c.loop-gap-test.true, c.saturating_sub-end.ensures, c.requires.0),
       simp length-set l.invariant.2,
       l.invariant.3,
-      put_turn room_size1980 broken l.gap _ l.invariant.4 l.invariant.3 (omega (arith, c.loop-gap-test.true, c.requires.0))
-          (law.break_here c.args.n c.args.finale c.args.sheet.now l.gap l.invariant.0 c.loop-gap-test.true c.is_shown.ensures c.from.ensures),
+      put_turn room_size1980 broken l.gap _ l.invariant.4 l.invariant.3 (omega (arith, c.loop-gap-test.true, c.saturating_sub-end.ensures, c.requires.0))
+          (law.break_here c.args.n c.args.finale c.args.sheet.now l.gap l.invariant.0 (omega (arith, c.loop-gap-test.true, c.saturating_sub-end.ensures)) c.is_shown.ensures c.from.ensures),
     )
 
 pub returns : goal.returns
@@ -38,4 +38,4 @@ returns c =
     let l = c.loop-gap in
     let broken = is_break k.n k.finale k.sheet.now in
     put_cleared room_size1980 broken k.room.now (c.clear_from.ensures ∙ cleared_sheet _ _)
-    (put_end room_size1980 broken l.gap _ (λ j h. law.break_past k.n k.finale k.sheet.now j (omega (arith, h, c.loop-gap-test.false))) l.invariant.4)
+    (put_end room_size1980 broken l.gap _ (λ j h. law.break_past k.n k.finale k.sheet.now j (omega (arith, h, c.loop-gap-test.false, c.saturating_sub-end.ensures))) l.invariant.4)
