@@ -106,12 +106,10 @@ pub fn judge_letters(word: &[u8], limit: usize) -> Result<(), Ground>
     ensures { says result ≡ first_of (Finds []) (letter_grounds limit word.now) }
 {
     judge_length(word.len(), limit)?;
-    let mut i = 0;
-    while i < word.len() {
-        if !is_letter(word[i]) {
+    for (i, b) in word.iter().enumerate() {
+        if !is_letter(*b) {
             return Err(Ground::NotLetter(i)); // the first such byte
         }
-        i += 1;
     }
     Ok(())
 }
@@ -141,15 +139,12 @@ pub fn judge_word(word: &[u8], limit: usize) -> Result<(), Ground>
     ensures { says result ≡ first_of (Finds []) (word_grounds limit word.now) }
 {
     judge_length(word.len(), limit)?;
-    let mut i = 0;
-    while i < word.len() {
-        if is_letter(word[i]) {
-            i += 1;
-        } else {
-            if !is_between(word, i) {
-                return Err(Ground::NotLetter(i)); // at its own place
-            }
-            i += 1;
+    for (i, b) in word.iter().enumerate() {
+        if is_letter(*b) {
+            continue;
+        }
+        if !is_between(word, i) {
+            return Err(Ground::NotLetter(i)); // at its own place
         }
     }
     Ok(())
