@@ -126,7 +126,7 @@ pub fn read_argument(
 pub fn is_option(rt: &HostRuntime, i: usize) -> bool {
     let mut name = [0u8; PATH_MAX];
     match put_argument(rt, i, &mut name) {
-        Ok(n) => n > 0 && name[0] == words::HYPHEN,
+        Ok(n) => name[..n].starts_with(&[words::HYPHEN]),
         Err(_) => false,
     }
 }
@@ -150,7 +150,7 @@ pub fn print(rt: &HostRuntime, program: &[u8], out: Stream, line: &[u8]) {
 pub fn print_refusal(rt: &HostRuntime, program: &[u8], out: Stream, ground: Ground) {
     let mut line = [0u8; report::LINE_LIMIT];
     let end = report::put_refusal(writing::EXCLAMATION, ground, &mut line, 0);
-    print(rt, program, out, &line[0..end]);
+    print(rt, program, out, &line[..end]);
 }
 
 // Nothing was done, and no ground says why: a file can't be opened, read or written, or the arguments are wrong.

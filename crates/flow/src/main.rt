@@ -5,18 +5,13 @@
 
 use base::Ground;
 use console::Stream;
-use judged::Judged;
+use hyphenation::Setting;
 use running::Written;
 use states::TextState;
 use std::io::Read;
 
 // The program's name.
 const NAME: &[u8] = b"flow";
-
-// The left and the right margin.
-const LEFT: usize = 2;
-
-const RIGHT: usize = 3;
 
 // A piece is as large as the buffer that it is read into, and the output room serves for it and for what is held.
 const PIECE: usize = 65536;
@@ -84,16 +79,11 @@ fn follow(
 fn take_piece(
     rt: &HostRuntime,
     piece: &[u8],
-    judged: &Judged,
+    setting: &Setting,
     room: &mut [u8],
     p: Progress,
 ) -> Progress {
-    let Judged {
-        customer,
-        house,
-        table,
-    } = *judged;
-    let taken = running::take_piece(p.state, LEFT, RIGHT, customer, house, table, piece, room);
+    let taken = running::take_piece(p.state, setting, piece, room);
     follow(rt, taken.state, taken.answer, room, p)
 }
 
@@ -103,11 +93,11 @@ fn stop(p: Progress, stage: Stage) -> Progress {
 }
 
 // Reads a piece of the text, if there is one.
-fn read_piece(rt: &HostRuntime, judged: &Judged, room: &mut [u8], p: Progress) -> Progress {
+fn read_piece(rt: &HostRuntime, setting: &Setting, room: &mut [u8], p: Progress) -> Progress {
     let mut buffer = [0u8; PIECE];
     match rt.stdin().read(&mut buffer) {
         Ok(0) => stop(p, Stage::Ended),
-        Ok(n) => take_piece(rt, &buffer[..n], judged, room, p),
+        Ok(n) => take_piece(rt, &buffer[..n], setting, room, p),
         Err(e) => {
             console::tell(rt, NAME, b"standard input", e);
             stop(p, Stage::Cut)
@@ -117,10 +107,10 @@ fn read_piece(rt: &HostRuntime, judged: &Judged, room: &mut [u8], p: Progress) -
 
 // The whole text, up to the end of the input. A proved loop has to end, and nothing says that the input does: so its turns are counted,
 // up to a number that no run reaches.
-fn take_text(rt: &HostRuntime, judged: &Judged, room: &mut [u8], p: Progress) -> Progress {
+fn take_text(rt: &HostRuntime, setting: &Setting, room: &mut [u8], p: Progress) -> Progress {
     let mut next = p;
     for _ in 0..u64::MAX {
-        next = read_piece(rt, judged, room, next);
+        next = read_piece(rt, setting, room, next);
         if next.stage != Stage::Reading {
             break;
         }
@@ -129,31 +119,26 @@ fn take_text(rt: &HostRuntime, judged: &Judged, room: &mut [u8], p: Progress) ->
 }
 
 // The end of the text. What is held goes out, unless the text was cut: nobody knows how that word goes on.
-fn end_text(rt: &HostRuntime, judged: &Judged, room: &mut [u8], p: Progress) {
+fn end_text(rt: &HostRuntime, setting: &Setting, room: &mut [u8], p: Progress) {
     if p.stage == Stage::Cut {
         return;
     }
-    let Judged {
-        customer,
-        house,
-        table,
-    } = *judged;
-    let taken = running::end_text(p.state, LEFT, RIGHT, customer, house, table, room);
+    let taken = running::end_text(p.state, setting, room);
     follow(rt, taken.state, taken.answer, room, p);
 }
 
 // The text over judged lists and a packed table. Every piece is judged with them, but they are told before anything is read.
-fn print_text(rt: &HostRuntime, judged: &Judged) {
+fn print_text(rt: &HostRuntime, setting: &Setting) {
     let mut room = [0u8; ROOM];
     let start = Progress {
         state: states::new_text(),
         fresh: true,
         stage: Stage::Reading,
     };
-    let end = take_text(rt, judged, &mut room, start);
-    end_text(rt, judged, &mut room, end);
+    let end = take_text(rt, setting, &mut room, start);
+    end_text(rt, setting, &mut room, end);
 }
 
 fn main(rt: HostRuntime) {
-    judged::run(&rt, NAME, |judged| print_text(&rt, judged));
+    judged::run(&rt, NAME, |setting| print_text(&rt, setting));
 }

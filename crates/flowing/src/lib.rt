@@ -10,7 +10,7 @@ ghost use Rattle.runs.specs.Reached.{can_be_held};
 ghost use Rattle.flowing.specs.Output.{broken, word_looks, finished_text, finished_looks};
 ghost use Rattle.flowing.specs.Post.{Shows, Holds, Goes, Finishes, Ready, Steps, Flows};
 
-use hyphenation::Found;
+use hyphenation::{Found, Setting};
 
 // How far a piece has come: bytes that are held, the run, where the output goes on, and the looks so far.
 #[derive(Clone, Copy)]
@@ -29,21 +29,12 @@ pub struct Shown {
 }
 
 // A judged word with its breaks.
-fn put_word<'a>(
-    left: usize,
-    right: usize,
-    customer: &'a [u8],
-    house: &'a [u8],
-    table: &[u8],
-    word: &[u8],
-    room: &mut [u8],
-    at: usize,
-) -> Shown
+fn put_word(setting: &Setting, word: &[u8], room: &mut [u8], at: usize) -> Shown
     requires { (judge_word word_limit word.now ≡ Ok tt) × (at + room_per_byte * length word.now ≤ length room.old) }
-    ensures { Shows (broken left right customer.now house.now table.now word.now) (word_looks customer.now house.now table.now word.now) at room.old result room.new }
+    ensures { Shows (broken setting.now.left setting.now.right setting.now.customer.now setting.now.house.now setting.now.table.now word.now) (word_looks setting.now.customer.now setting.now.house.now setting.now.table.now word.now) at room.old result room.new }
 {
     let mut marks = [0u8; base::ROOM_SIZE];
-    match hyphenation::hyphenate_word(left, right, word, customer, house, table, &mut marks) {
+    match hyphenation::hyphenate_word(setting, word, &mut marks) {
         Ok(Found { looks, .. }) => Shown {
             end: writing::put_hyphenated(b"\\-", &marks, word, room, at),
             looks,
@@ -54,36 +45,18 @@ fn put_word<'a>(
 }
 
 // What is held, finished: the word, and the apostrophe that waits behind it.
-pub fn put_held<'a>(
-    left: usize,
-    right: usize,
-    customer: &'a [u8],
-    house: &'a [u8],
-    table: &[u8],
-    held: &[u8],
-    room: &mut [u8],
-    at: usize,
-) -> Shown
+pub fn put_held(setting: &Setting, held: &[u8], room: &mut [u8], at: usize) -> Shown
     requires { (can_be_held held.now ≡ true) × (at + room_per_byte * length held.now ≤ length room.old) }
-    ensures { Shows (finished_text left right customer.now house.now table.now held.now) (finished_looks customer.now house.now table.now held.now) at room.old result room.new }
+    ensures { Shows (finished_text setting.now.left setting.now.right setting.now.customer.now setting.now.house.now setting.now.table.now held.now) (finished_looks setting.now.customer.now setting.now.house.now setting.now.table.now held.now) at room.old result room.new }
 {
     if held.len() == 0 {
         return Shown { end: at, looks: 0 };
     }
     let last = held.len() - 1;
     if held[last] != words::APOSTROPHE {
-        return put_word(left, right, customer, house, table, held, room, at);
+        return put_word(setting, held, room, at);
     }
-    let shown = put_word(
-        left,
-        right,
-        customer,
-        house,
-        table,
-        &held[0..last],
-        room,
-        at,
-    );
+    let shown = put_word(setting, &held[0..last], room, at);
     Shown {
         end: writing::put_byte(words::APOSTROPHE, room, shown.end),
         looks: shown.looks,
@@ -145,22 +118,12 @@ fn let_go(b: u8, held: &[u8], room: &mut [u8], f: Flow) -> Flow
 }
 
 // The byte ends what is held: the word goes out with its breaks, and the byte.
-fn finish_word<'a>(
-    left: usize,
-    right: usize,
-    customer: &'a [u8],
-    house: &'a [u8],
-    table: &[u8],
-    b: u8,
-    held: &[u8],
-    room: &mut [u8],
-    f: Flow,
-) -> Flow
+fn finish_word(setting: &Setting, b: u8, held: &[u8], room: &mut [u8], f: Flow) -> Flow
     requires { Finishes f held.now room.old }
-    ensures { Goes (finished_text left right customer.now house.now table.now (take f.size held.now) ++ (b ∷ [])) (finished_looks customer.now house.now table.now (take f.size held.now)) 0 0 f room.old result room.new }
+    ensures { Goes (finished_text setting.now.left setting.now.right setting.now.customer.now setting.now.house.now setting.now.table.now (take f.size held.now) ++ (b ∷ [])) (finished_looks setting.now.customer.now setting.now.house.now setting.now.table.now (take f.size held.now)) 0 0 f room.old result room.new }
 {
     let n = f.size;
-    let shown = put_held(left, right, customer, house, table, &held[0..n], room, f.at);
+    let shown = put_held(setting, &held[0..n], room, f.at);
     Flow {
         size: 0,
         run: states::HOLDING,
@@ -170,19 +133,9 @@ fn finish_word<'a>(
 }
 
 // An apostrophe: behind a run that was let go it goes out at once, behind a letter it is held, and else it ends what is held.
-fn take_apostrophe<'a>(
-    left: usize,
-    right: usize,
-    customer: &'a [u8],
-    house: &'a [u8],
-    table: &[u8],
-    b: u8,
-    held: &mut [u8],
-    room: &mut [u8],
-    f: Flow,
-) -> Flow
+fn take_apostrophe(setting: &Setting, b: u8, held: &mut [u8], room: &mut [u8], f: Flow) -> Flow
     requires { (b ≡ apostrophe) × Ready 1 f held.old room.old }
-    ensures { Steps left right customer.now house.now table.now b f held.old room.old result held.new room.new }
+    ensures { Steps setting.now.left setting.now.right setting.now.customer.now setting.now.house.now setting.now.table.now b f held.old room.old result held.new room.new }
 {
     if f.run == states::GONE {
         return pass_on(b, states::GONE_MARKED, room, f);
@@ -190,23 +143,13 @@ fn take_apostrophe<'a>(
     if ends_letter(held, f.size) {
         return hold_byte(b, held, f); // its right neighbour isn't known yet
     }
-    finish_word(left, right, customer, house, table, b, held, room, f)
+    finish_word(setting, b, held, room, f)
 }
 
 // One byte of the text.
-fn take_byte<'a>(
-    left: usize,
-    right: usize,
-    customer: &'a [u8],
-    house: &'a [u8],
-    table: &[u8],
-    b: u8,
-    held: &mut [u8],
-    room: &mut [u8],
-    f: Flow,
-) -> Flow
+fn take_byte(setting: &Setting, b: u8, held: &mut [u8], room: &mut [u8], f: Flow) -> Flow
     requires { Ready 1 f held.old room.old }
-    ensures { Steps left right customer.now house.now table.now b f held.old room.old result held.new room.new }
+    ensures { Steps setting.now.left setting.now.right setting.now.customer.now setting.now.house.now setting.now.table.now b f held.old room.old result held.new room.new }
 {
     if words::is_letter(b) {
         if f.run != states::HOLDING {
@@ -218,32 +161,26 @@ fn take_byte<'a>(
         return let_go(b, held, room, f);
     }
     if b == words::APOSTROPHE {
-        return take_apostrophe(left, right, customer, house, table, b, held, room, f);
+        return take_apostrophe(setting, b, held, room, f);
     }
-    finish_word(left, right, customer, house, table, b, held, room, f) // any other byte
+    finish_word(setting, b, held, room, f) // any other byte
 }
 
 // The bytes of a piece.
-pub fn take_bytes<'a>(
-    left: usize,
-    right: usize,
-    customer: &'a [u8],
-    house: &'a [u8],
-    table: &[u8],
+pub fn take_bytes(
+    setting: &Setting,
     piece: &[u8],
     held: &mut [u8],
     room: &mut [u8],
     f: Flow,
 ) -> Flow
     requires { Ready (length piece.now) f held.old room.old }
-    ensures { Flows left right customer.now house.now table.now piece.now f held.old room.old result held.new room.new }
+    ensures { Flows setting.now.left setting.now.right setting.now.customer.now setting.now.house.now setting.now.table.now piece.now f held.old room.old result held.new room.new }
 {
     let mut next = f;
     let mut i = 0;
     while i < piece.len() {
-        next = take_byte(
-            left, right, customer, house, table, piece[i], held, room, next,
-        );
+        next = take_byte(setting, piece[i], held, room, next);
         i += 1;
     }
     next

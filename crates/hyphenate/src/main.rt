@@ -6,18 +6,13 @@ ghost use Rattle.std.specs.Prelude.{◌≡◌, ◌≤◌, length};
 ghost use Rattle.base.specs.Limits.{room_size};
 ghost use Rattle.report.specs.Report.{line_limit};
 
-use judged::Judged;
+use hyphenation::Setting;
 use report::Line;
 use spool::Breaker;
 
-// The left and the right margin.
-const LEFT: usize = 2;
-
-const RIGHT: usize = 3;
-
-// Judged lists and a packed table.
+// Breaks by judged lists and a packed table.
 #[derive(Clone, Copy)]
-struct Lists<'a>(&'a Judged<'a>);
+struct Lists<'a>(&'a Setting<'a>);
 
 impl<'a> Breaker for Lists<'a> {
     ghost LINE_LIMIT = { line_limit };
@@ -41,22 +36,17 @@ impl<'a> Breaker for Lists<'a> {
     }
 
     fn put_word(&self, word: &[u8], marks: &mut [u8], room: &mut [u8], at: usize) -> Line {
-        let Judged {
-            customer,
-            house,
-            table,
-        } = *self.0;
-        report::put_word(LEFT, RIGHT, word, customer, house, table, marks, room, at)
+        report::put_word(self.0, word, marks, room, at)
     }
 }
 
 // The words over judged lists and a packed table.
-fn print_words(rt: &HostRuntime, judged: &Judged) {
+fn print_words(rt: &HostRuntime, setting: &Setting) {
     let mut held = [0u8; base::WORD_LIMIT + 1];
     let mut marks = [0u8; base::ROOM_SIZE];
-    spool::print_words(rt, &Lists(judged), &mut held, &mut marks);
+    spool::print_words(rt, &Lists(setting), &mut held, &mut marks);
 }
 
 fn main(rt: HostRuntime) {
-    judged::run(&rt, Lists::name(), |judged| print_words(&rt, judged));
+    judged::run(&rt, Lists::name(), |setting| print_words(&rt, setting));
 }

@@ -67,10 +67,10 @@ pub levels_found : (word table room : List ℕ) {judged judgement : Check} {cell
     → Answered judgement (level_sheet (cells_of table) (entries_of table) root_base word) (word_looks (cells_of table) root_base word) room r after
 levels_found word table room p q c e f = let j = sym p ∙ q in rw (j, ← c, ← e) f
 
-pub breaks_found : (left right : ℕ) (word customer house table room : List ℕ) {judged judgement : Check} {cells entries after : List ℕ} {r : Answer} → judged ≡ judgement → judged ≡ Ok tt
-    → cells ≡ cells_of table → entries ≡ entries_of table → BreaksFound left right word customer house cells entries root_base room r after
+pub breaks_found : (left right : ℕ) (word customer house table room : List ℕ) {judged judgement : Check} {after : List ℕ} {r : Answer} → judged ≡ judgement → judged ≡ Ok tt
+    → BreaksFound left right word customer house (cells_of table) (entries_of table) root_base room r after
     → Answered judgement (breaks_sheet left right word customer house table) (breaks_looks word customer house table) room r after
-breaks_found left right word customer house table room p q c e f = let j = sym p ∙ q in rw (j, ← c, ← e) f
+breaks_found left right word customer house table room p q f = let j = sym p ∙ q in rw j f
 
 pub word_alone_sizes : (word : List ℕ) (size : ℕ) {judged : Check} → judged ≡ judge_word_alone word size → judged ≡ Ok tt → (judge_word word_limit word ≡ Ok tt) × (room_size ≤ size)
 unfolding judge_word_alone

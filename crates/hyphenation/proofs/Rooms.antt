@@ -250,6 +250,11 @@ module _ (left right root : ℕ) (word customer house cells entries room : List 
   unfolding odd_sheet
   by_levels q d = record { counted = d.counted ∙ sym (looks_by q); memory = d.memory ∙ ap (λ (l : List ℕ). written room_size l room) (sym (breaks_by q)) }
 
+-- the levels' way over a table's parts
+pub over_parts : (left right root : ℕ) (word : List ℕ) {looks : ℕ} {cells entries c e room after : List ℕ} → cells ≡ c → entries ≡ e
+    → Done (odd_sheet left right cells entries root word) (word_looks cells root word) room looks after → Done (odd_sheet left right c e root word) (word_looks c root word) room looks after
+over_parts left right root word p q d = rw (← p, ← q) d
+
 -- the ways to the breaks meet: what they leave is one room and one count, and the room keeps its length
 pub done_as : {bytes : List ℕ} {looks : ℕ} {d room after : List ℕ} {count n : ℕ} → room ≡ after → count ≡ n → Done bytes looks d n after → Done bytes looks d count room
 done_as e q d = record { counted = q ∙ d.counted; memory = e ∙ d.memory }

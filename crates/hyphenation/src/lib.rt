@@ -6,6 +6,7 @@ ghost use Rattle.base.specs.Limits.{room_size, word_limit};
 ghost use Rattle.base.specs.Grounds.{Finds, says, first_of};
 ghost use Rattle.words.specs.Words.{judge_word};
 ghost use Rattle.liang.specs.Breaks.{bad_margin, in_margins, level_break};
+ghost use Rattle.table.specs.Table.{cells_of, entries_of, root_base};
 ghost use Rattle.rooms.specs.Rooms.{sheet, written, bit};
 ghost use Rattle.hyphenation.specs.Levels.{word_looks};
 ghost use Rattle.hyphenation.specs.Breaks.{mark_hyphens};
@@ -20,6 +21,16 @@ use lookup::Located;
 pub struct Found {
     pub marks: usize,
     pub looks: usize,
+}
+
+// What stays the same from word to word: the margins, the exception lists and the table.
+#[derive(Clone, Copy)]
+pub struct Setting<'a> {
+    pub left: usize,
+    pub right: usize,
+    pub customer: &'a [u8],
+    pub house: &'a [u8],
+    pub table: &'a [u8],
 }
 
 // Ground 5.
@@ -72,22 +83,14 @@ pub fn judge_word_alone(word: &[u8], size: usize) -> Result<(), Ground>
 }
 
 // The grounds of the hyphenating call: 1, 5, 2, 4, 3, 8, 6, 9.
-pub fn judge_hyphenate(
-    left: usize,
-    right: usize,
-    word: &[u8],
-    customer: &[u8],
-    house: &[u8],
-    table: &[u8],
-    size: usize,
-) -> Result<(), Ground>
-    ensures { says result ≡ first_of (Finds []) (hyphenate_grounds left right word.now customer.now house.now table.now size) }
+pub fn judge_hyphenate(setting: &Setting, word: &[u8], size: usize) -> Result<(), Ground>
+    ensures { says result ≡ first_of (Finds []) (hyphenate_grounds setting.now.left setting.now.right word.now setting.now.customer.now setting.now.house.now setting.now.table.now size) }
 {
-    judge_margins(left, right)?;
+    judge_margins(setting.left, setting.right)?;
     judge_room(size)?;
     words::judge_word(word, base::WORD_LIMIT)?;
-    lists::judge_lists(customer, house)?;
-    table::judge_table(table)
+    lists::judge_lists(setting.customer, setting.house)?;
+    table::judge_table(setting.table)
 }
 
 // Do the margins fit around gap i of n letters?
@@ -185,22 +188,18 @@ fn put_level_breaks(
 }
 
 // The breaks of a judged word in a judged room.
-fn find_breaks<'a>(
-    left: usize,
-    right: usize,
-    word: &[u8],
-    customer: &'a [u8],
-    house: &'a [u8],
-    cells: &[u8],
-    entries: &[u8],
-    root: u16,
-    room: &mut [u8],
-) -> Result<Found, Ground>
+fn find_breaks(setting: &Setting, word: &[u8], room: &mut [u8]) -> Result<Found, Ground>
     requires { (judge_word word_limit word.now ≡ Ok tt) × (room_size ≤ length room.old) }
-    ensures { BreaksFound left right word.now customer.now house.now cells.now entries.now root room.old result room.new }
+    ensures { BreaksFound setting.now.left setting.now.right word.now setting.now.customer.now setting.now.house.now (cells_of setting.now.table.now) (entries_of setting.now.table.now) root_base room.old result room.new }
 {
-    let at = lookup::find_either(word, customer, house);
-    let looks = match at {
+    let Setting {
+        left,
+        right,
+        customer,
+        house,
+        table,
+    } = *setting;
+    let looks = match lookup::find_either(word, customer, house) {
         Located::Customer { start, end } => {
             put_line_breaks(left, right, word.len(), &customer[start..end], room);
             0 // a customer's line takes no look
@@ -209,7 +208,11 @@ fn find_breaks<'a>(
             put_line_breaks(left, right, word.len(), &house[start..end], room);
             0 // nor does the house's
         }
-        Located::Nowhere => put_level_breaks(left, right, cells, entries, root, word, room),
+        Located::Nowhere => {
+            let cells = table::cells_of(table);
+            let entries = table::entries_of(table);
+            put_level_breaks(left, right, cells, entries, table::ROOT_BASE, word, room)
+        }
     };
     let marks = rooms::count_marks(room, base::ROOM_SIZE);
     Ok(Found { marks, looks })
@@ -226,58 +229,18 @@ pub fn levels(word: &[u8], table: &[u8], room: &mut [u8]) -> Result<Found, Groun
 }
 
 // The hyphenating call.
-pub fn hyphenate<'a>(
-    left: usize,
-    right: usize,
-    word: &[u8],
-    customer: &'a [u8],
-    house: &'a [u8],
-    table: &[u8],
-    room: &mut [u8],
-) -> Result<Found, Ground>
-    ensures { Breaks left right word.now customer.now house.now table.now room.old result room.new }
+pub fn hyphenate(setting: &Setting, word: &[u8], room: &mut [u8]) -> Result<Found, Ground>
+    ensures { Breaks setting.now.left setting.now.right word.now setting.now.customer.now setting.now.house.now setting.now.table.now room.old result room.new }
 {
-    judge_hyphenate(left, right, word, customer, house, table, room.len())?;
-    let cells = table::cells_of(table);
-    let entries = table::entries_of(table);
-    find_breaks(
-        left,
-        right,
-        word,
-        customer,
-        house,
-        cells,
-        entries,
-        table::ROOT_BASE,
-        room,
-    )
+    judge_hyphenate(setting, word, room.len())?;
+    find_breaks(setting, word, room)
 }
 
 // The hyphenating call for a word, where margins, lists and table were judged before: whoever has many words judges these once.
 // Room and word it judges itself. Over lists or a table that weren't judged it still is safe and ends.
-pub fn hyphenate_word<'a>(
-    left: usize,
-    right: usize,
-    word: &[u8],
-    customer: &'a [u8],
-    house: &'a [u8],
-    table: &[u8],
-    room: &mut [u8],
-) -> Result<Found, Ground>
-    ensures { WordBreaks left right word.now customer.now house.now table.now room.old result room.new }
+pub fn hyphenate_word(setting: &Setting, word: &[u8], room: &mut [u8]) -> Result<Found, Ground>
+    ensures { WordBreaks setting.now.left setting.now.right word.now setting.now.customer.now setting.now.house.now setting.now.table.now room.old result room.new }
 {
     judge_word_alone(word, room.len())?;
-    let cells = table::cells_of(table);
-    let entries = table::entries_of(table);
-    find_breaks(
-        left,
-        right,
-        word,
-        customer,
-        house,
-        cells,
-        entries,
-        table::ROOT_BASE,
-        room,
-    )
+    find_breaks(setting, word, room)
 }

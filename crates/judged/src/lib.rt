@@ -4,6 +4,7 @@
 
 use base::Ground;
 use console::Stream;
+use hyphenation::Setting;
 
 // How many files the arguments name.
 const FILES: usize = 3;
@@ -11,13 +12,10 @@ const FILES: usize = 3;
 // A table's room.
 const ROOM: usize = 65536;
 
-// The customer's exception list and the house's, which were judged, and a packed table.
-#[derive(Clone, Copy)]
-pub struct Judged<'a> {
-    pub customer: &'a [u8],
-    pub house: &'a [u8],
-    pub table: &'a [u8],
-}
+// The margins of the programs' breaks.
+const LEFT: usize = 2;
+
+const RIGHT: usize = 3;
 
 // Packs a pattern list into a room, and judges the exception lists.
 fn pack_judged(
@@ -32,7 +30,7 @@ fn pack_judged(
 }
 
 // Goes on with lists that aren't judged yet. Which of them is refused, and on what ground, is told.
-fn judge<F: FnOnce(&Judged)>(
+fn judge<F: FnOnce(&Setting)>(
     rt: &HostRuntime,
     program: &[u8],
     patterns: &[u8],
@@ -46,7 +44,9 @@ fn judge<F: FnOnce(&Judged)>(
     match pack_judged(patterns, customer, house, &mut room) {
         Ok(size) => {
             if let Some(table) = room.get(..size) {
-                go_on(&Judged {
+                go_on(&Setting {
+                    left: LEFT,
+                    right: RIGHT,
                     customer,
                     house,
                     table,
@@ -59,7 +59,7 @@ fn judge<F: FnOnce(&Judged)>(
 
 // Goes on with what the arguments name: a pattern file, the customer's exception file and the house exception file. A file is read with
 // room for one byte more than its limit, so that a longer one is told from one that has just as many.
-pub fn run<F: FnOnce(&Judged)>(rt: &HostRuntime, program: &[u8], go_on: F)
+pub fn run<F: FnOnce(&Setting)>(rt: &HostRuntime, program: &[u8], go_on: F)
     requires { F.IsAlwaysCallable go_on }
 {
     if !console::has_argument(rt, FILES) || console::has_argument(rt, FILES + 1) {

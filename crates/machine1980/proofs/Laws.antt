@@ -24,8 +24,8 @@ use Rattle.prefix1980.specs.Prefixes.{restartp, phase3}
 use Rattle.prefix1980.specs.Joined as prefixes
 use Rattle.prefix1980.proofs.Budget as prefix-budget
 use Rattle.middle1980.specs.Middles.{phase4}
+use Rattle.middle1980.specs.Joined.{Step}
 use Rattle.middle1980.specs.Joined as middle
-use Rattle.middle1980.specs.declared.Step.{Step}
 use Rattle.machine1980.specs.Run.{Outcome, RanOut, Marked, from_prefixes, from_suffixes, run, machine}
 use Rattle.machine1980.specs.Breaks.{shows, in_print, is_break, break_sheet}
 use Rattle.machine1980.specs.Calls.{judge1980, said1980, values_of, left_by, reprint}

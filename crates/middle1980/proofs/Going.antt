@@ -3,19 +3,19 @@ use Prim.Native.Nat.{ℕ, zero, suc, ◌-◌, ◌<◌, ◌≤◌}
 use mathlib.Core.List.{List}
 use mathlib.Core.Path.{◌≡◌, refl, sym, ◌∙◌, ap, subst}
 use native.Mathlib.Omega.{arith}
+use Rattle.std.specs.Prelude.{Some, None}
 use Rattle.sheet1980.specs.Sheet.{Sheet}
 use Rattle.middle1980.specs.Middles.{Middle, Goto, Phase5, onward, middles, enough, sheet_in, phase4}
-use Rattle.middle1980.specs.Joined.{joined, Placed}
+use Rattle.middle1980.specs.Joined.{Step, joined, Place, Placed}
 use Rattle.middle1980.specs.declared.Label.{Label}
 use Rattle.middle1980.specs.declared.Label.TheVariants.{Marki, Phase4c, Vowelscan, Checkc, Phase4v, Phase4vc, Ertest}
-use Rattle.middle1980.specs.declared.Step.{Step}
-use Rattle.middle1980.specs.declared.Step.TheVariants as step
+use Rattle.middle1980.specs.declared.Goto as registers
 use Rattle.middle1980.proofs.Ends.{Fine, to_come, rank, onward_fine}
 
 -- how many labels are to come at most
 unfoldable pub steps_left : ℕ → Step → ℕ
-steps_left n (step.Goto label i b c) = suc (to_come n label i)
-steps_left n step.Phase5 = 0
+steps_left n (Some r) = suc (to_come n r.label r.i)
+steps_left n None = 0
 
 -- phase 4 from here on, with labels enough, and why it stays on the sheet
 pub record Going (finale n : ℕ) (whole : Middle) (at : Step) (sheet : List ℕ) : Type 0 where
@@ -23,16 +23,19 @@ pub record Going (finale n : ℕ) (whole : Middle) (at : Step) (sheet : List ℕ
   pub rest : phase4 n finale whole ≡ sheet_in (middles steps finale (joined at sheet))
   pub fine : Fine n steps (joined at sheet)
 
-start_fine : (n : ℕ) (at : Step) (sheet : List ℕ) → Sheet n sheet → Placed n at → Fine n (enough n) (joined at sheet)
+fine_at : (n : ℕ) (label : Label) (i b c : ℕ) (sheet : List ℕ) → Sheet n sheet → Place n label i c → Fine n (enough n) (Goto label i b c sheet)
 unfolding to_come rank
-start_fine n (step.Goto Marki i b c) sheet s p = (s, p, omega (arith, p.0))
-start_fine n (step.Goto Phase4c i b c) sheet s p = (s, p, omega (arith, p.0))
-start_fine n (step.Goto Vowelscan i b c) sheet s p = (s, p, omega (arith, p.0))
-start_fine n (step.Goto Checkc i b c) sheet s p = (s, p, omega (arith, p.0))
-start_fine n (step.Goto Phase4v i b c) sheet s p = (s, p, omega (arith, p.0))
-start_fine n (step.Goto Phase4vc i b c) sheet s p = (s, p, omega (arith, p.0))
-start_fine n (step.Goto Ertest i b c) sheet s p = (s, p, omega (arith, p.0))
-start_fine n step.Phase5 sheet s p = s
+fine_at n Marki i b c sheet s p = (s, p, omega (arith, p.0))
+fine_at n Phase4c i b c sheet s p = (s, p, omega (arith, p.0))
+fine_at n Vowelscan i b c sheet s p = (s, p, omega (arith, p.0))
+fine_at n Checkc i b c sheet s p = (s, p, omega (arith, p.0))
+fine_at n Phase4v i b c sheet s p = (s, p, omega (arith, p.0))
+fine_at n Phase4vc i b c sheet s p = (s, p, omega (arith, p.0))
+fine_at n Ertest i b c sheet s p = (s, p, omega (arith, p.0))
+
+start_fine : (n : ℕ) (at : Step) (sheet : List ℕ) → Sheet n sheet → Placed n at → Fine n (enough n) (joined at sheet)
+start_fine n (Some r) sheet s p = fine_at n r.label r.i r.b r.c sheet s p
+start_fine n None sheet s p = s
 
 pub start : (finale n : ℕ) (at : Step) (sheet : List ℕ) → Sheet n sheet → Placed n at → Going finale n (joined at sheet) at sheet
 unfolding phase4
@@ -43,7 +46,7 @@ unfolding middles
 ended zero finale sheet = refl
 ended (suc steps) finale sheet = refl
 
-pub stopped : (finale n : ℕ) (whole : Middle) (sheet : List ℕ) {at : Step} → at ≡ step.Phase5 → Going finale n whole at sheet → sheet ≡ phase4 n finale whole
+pub stopped : (finale n : ℕ) (whole : Middle) (sheet : List ℕ) {at : Step} → at ≡ None → Going finale n whole at sheet → sheet ≡ phase4 n finale whole
 stopped finale n whole sheet e g = sym (g.rest ∙ ap (λ (x : Step). sheet_in (middles g.steps finale (joined x sheet))) e ∙ ended g.steps finale sheet)
 
 turn : (steps finale : ℕ) (label : Label) (i b c : ℕ) (sheet : List ℕ) → 0 < steps
@@ -59,28 +62,28 @@ wider n m k (Phase5 sheet) h f = f
 
 left_less : (n m : ℕ) (at : Step) (sheet : List ℕ) → Fine n m (joined at sheet) → steps_left n at ≤ m
 unfolding steps_left
-left_less n m (step.Goto label i b c) sheet f = omega (arith, f.2)
-left_less n m step.Phase5 sheet f = omega arith
+left_less n m (Some r) sheet f = omega (arith, f.2)
+left_less n m None sheet f = omega arith
 
-module _ (finale n : ℕ) (whole : Middle) (label : Label) (i b c : ℕ) (sheet : List ℕ) (at : Step) (e : at ≡ step.Goto label i b c) (g : Going finale n whole at sheet) where
-  here : Fine n g.steps (Goto label i b c sheet)
+module _ (finale n : ℕ) (whole : Middle) (r : registers.Goto) (sheet : List ℕ) (at : Step) (e : at ≡ Some r) (g : Going finale n whole at sheet) where
+  here : Fine n g.steps (Goto r.label r.i r.b r.c sheet)
   here = subst (λ (x : Step). Fine n g.steps (joined x sheet)) e g.fine
 
-  goal : (next : Step) (after : List ℕ) → joined next after ≡ onward finale label i b c sheet → Fine n (to_come n label i) (joined next after)
-  goal next after k = subst (λ (x : Middle). Fine n (to_come n label i) x) (sym k) (onward_fine n finale label i b c sheet here.0 here.1)
+  goal : (next : Step) (after : List ℕ) → joined next after ≡ onward finale r.label r.i r.b r.c sheet → Fine n (to_come n r.label r.i) (joined next after)
+  goal next after k = subst (λ (x : Middle). Fine n (to_come n r.label r.i) x) (sym k) (onward_fine n finale r.label r.i r.b r.c sheet here.0 here.1)
 
-  pub turned : (next : Step) (after : List ℕ) → joined next after ≡ onward finale label i b c sheet → Going finale n whole next after
+  pub turned : (next : Step) (after : List ℕ) → joined next after ≡ onward finale r.label r.i r.b r.c sheet → Going finale n whole next after
   turned next after k =
       record {
         steps = g.steps - 1;
         rest = g.rest
             ∙ ap (λ (x : Step). sheet_in (middles g.steps finale (joined x sheet))) e
-            ∙ ap sheet_in (turn g.steps finale label i b c sheet (omega (arith, here.2)))
+            ∙ ap sheet_in (turn g.steps finale r.label r.i r.b r.c sheet (omega (arith, here.2)))
             ∙ ap (λ (x : Middle). sheet_in (middles (g.steps - 1) finale x)) (sym k);
-        fine = wider n (to_come n label i) (g.steps - 1) (joined next after) (omega (arith, here.2)) (goal next after k);
+        fine = wider n (to_come n r.label r.i) (g.steps - 1) (joined next after) (omega (arith, here.2)) (goal next after k);
       }
 
   -- the number that falls
-  pub less : (next : Step) (after : List ℕ) → joined next after ≡ onward finale label i b c sheet → steps_left n next < steps_left n at
+  pub less : (next : Step) (after : List ℕ) → joined next after ≡ onward finale r.label r.i r.b r.c sheet → steps_left n next < steps_left n at
   unfolding steps_left
-  less next after k = omega (arith, ap (steps_left n) e, left_less n (to_come n label i) next after (goal next after k))
+  less next after k = omega (arith, ap (steps_left n) e, left_less n (to_come n r.label r.i) next after (goal next after k))

@@ -1,15 +1,18 @@
 -- What the code tells, joined with the sheet.
-use Rattle.std.specs.Prelude.{ℕ, ◌+◌, ◌≤◌, ◌<◌, List, ◌≡◌}
+use Rattle.std.specs.Prelude.{ℕ, ◌+◌, ◌≤◌, ◌<◌, List, ◌≡◌, Option, Some, None}
 use Rattle.sheet1980.specs.Sheet.{u}
 use Rattle.middle1980.specs.Middles.{Middle, Goto, Phase5}
 use Rattle.middle1980.specs.declared.Label.{Label}
 use Rattle.middle1980.specs.declared.Label.TheVariants.{Marki, Phase4c, Vowelscan, Checkc, Phase4v, Phase4vc, Ertest}
-use Rattle.middle1980.specs.declared.Step.{Step}
-use Rattle.middle1980.specs.declared.Step.TheVariants as step
+use Rattle.middle1980.specs.declared.Goto as registers
+
+-- On to a label; None is phase 5.
+abbrev pub Step : Type 0
+Step = Option registers.Goto
 
 abbrev pub joined : Step → List ℕ → Middle
-joined (step.Goto label i b c) sheet = Goto label i b c sheet
-joined step.Phase5 sheet = Phase5 sheet
+joined (Some at) sheet = Goto at.label at.i at.b at.c sheet
+joined None sheet = Phase5 sheet
 
 -- What is told whatever the sheet.
 abbrev pub Joins : Step → (List ℕ → Middle) → Type 0
@@ -26,5 +29,5 @@ Place n Phase4vc i c = (u + 2 ≤ i) × (i ≤ u + n + 1)
 Place n Ertest i c = (u + 1 ≤ i) × (i ≤ u + n + 1)
 
 abbrev pub Placed : ℕ → Step → Type 0
-Placed n (step.Goto label i b c) = Place n label i c
-Placed n step.Phase5 = Unit {0}
+Placed n (Some at) = Place n at.label at.i at.c
+Placed n None = Unit {0}

@@ -1,7 +1,7 @@
 // Phase 4 of the 1980 machine: the consonant pairs in the middle of a word. CR 4. Labels are 004's.
 #![tactic(auto)]
 
-ghost use Rattle.std.specs.Prelude.{◌≡◌, true, ◌&&◌, ◌+◌, ◌≤◌, eqb};
+ghost use Rattle.std.specs.Prelude.{◌≡◌, Some, true, ◌&&◌, ◌+◌, ◌≤◌, eqb};
 ghost use Rattle.base.specs.Limits.{word_limit1980};
 ghost use Rattle.tables1980.specs.Words.{o};
 ghost use Rattle.sheet1980.specs.Sheet.{place_bound, Sheet};
@@ -22,16 +22,25 @@ pub enum Label {
     Ertest,
 }
 
-// Where to go: to a label with i, b and c, or to phase 5. (d) Phase 5 is one more of 004's places, so that None would hide its name.
+// Where phase 4 goes on: the label and its registers.
 #[derive(Clone, Copy)]
-pub enum Step {
-    Goto {
-        label: Label,
-        i: usize,
-        b: u8,
-        c: u8,
-    },
-    Phase5,
+pub struct Goto {
+    pub label: Label,
+    pub i: usize,
+    pub b: u8,
+    pub c: u8,
+}
+
+// On to a label; None is phase 5.
+pub type Step = Option<Goto>;
+
+impl Goto {
+    // On to another label and place.
+    fn to(self, label: Label, i: usize) -> Step
+        ensures { result ≡ Some (record { label = label; i = i; b = self.b; c = self.c }) }
+    {
+        Some(Goto { label, i, ..self })
+    }
 }
 
 // The codes of the letters that phase 4 names.
@@ -97,45 +106,31 @@ fn is_weak(b: u8, c: u8) -> bool
 
 // ll or ss.
 #[tactic(auto, unfolding(crate::specs::Middles::liquid))]
-fn go_liquid(i: usize, b: u8, sheet: &[u8]) -> Step
-    requires { i ≤ place_bound }
-    ensures { joined result sheet.now ≡ liquid i b sheet.now }
+fn go_liquid(at: Goto, sheet: &[u8]) -> Step
+    requires { at.i ≤ place_bound }
+    ensures { joined result sheet.now ≡ liquid at.i at.b sheet.now }
 {
-    let c = code_at(sheet, i + 1);
+    let c = code_at(sheet, at.i + 1);
+    let at = Goto { c, ..at };
     if c == 0 {
-        Step::Phase5
+        None
     } else if is_vowel(c) {
-        Step::Goto {
-            label: Label::Ertest,
-            i,
-            b,
-            c,
-        }
+        at.to(Label::Ertest, at.i)
     } else {
-        Step::Goto {
-            label: Label::Phase4c,
-            i: i + 2,
-            b,
-            c,
-        }
+        at.to(Label::Phase4c, at.i + 2)
     }
 }
 
 // A double consonant.
 #[tactic(auto, unfolding(crate::specs::Middles::doubled))]
-fn go_doubled(i: usize, b: u8, c: u8, sheet: &[u8]) -> Step
-    requires { i ≤ place_bound }
-    ensures { joined result sheet.now ≡ doubled i b c sheet.now }
+fn go_doubled(at: Goto, sheet: &[u8]) -> Step
+    requires { at.i ≤ place_bound }
+    ensures { joined result sheet.now ≡ doubled at.i at.b at.c sheet.now }
 {
-    if c == LETTER_L || c == LETTER_S {
-        go_liquid(i, b, sheet)
+    if at.c == LETTER_L || at.c == LETTER_S {
+        go_liquid(at, sheet)
     } else {
-        Step::Goto {
-            label: Label::Marki,
-            i,
-            b,
-            c,
-        }
+        at.to(Label::Marki, at.i)
     }
 }
 
@@ -159,76 +154,58 @@ fn ends_in_est(i: usize, sheet: &[u8]) -> bool
 
 // A weak pair.
 #[tactic(auto, unfolding(crate::specs::Middles::weakly))]
-fn go_weakly(finale: usize, i: usize, b: u8, c: u8, sheet: &[u8]) -> Step
-    requires { i ≤ place_bound }
-    ensures { joined result sheet.now ≡ weakly finale i b c sheet.now }
+fn go_weakly(finale: usize, at: Goto, sheet: &[u8]) -> Step
+    requires { at.i ≤ place_bound }
+    ensures { joined result sheet.now ≡ weakly finale at.i at.b at.c sheet.now }
 {
-    if code_at(sheet, i + 4) == 0 && (ends_in_age(finale, i, sheet) || ends_in_est(i, sheet)) {
-        Step::Phase5
+    if code_at(sheet, at.i + 4) == 0
+        && (ends_in_age(finale, at.i, sheet) || ends_in_est(at.i, sheet))
+    {
+        None
     } else {
-        Step::Goto {
-            label: Label::Ertest,
-            i,
-            b,
-            c,
-        }
+        at.to(Label::Ertest, at.i)
     }
 }
 
-// A pair before the vowel at j.
+// A pair before the vowel at i.
 #[tactic(auto, unfolding(crate::specs::Middles::paired))]
-fn go_paired(finale: usize, j: usize, b: u8, c: u8, sheet: &[u8]) -> Step
-    requires { (1 ≤ j) × (j ≤ place_bound) × (1 ≤ c) }
-    ensures { joined result sheet.now ≡ paired finale j b c sheet.now }
+fn go_paired(finale: usize, at: Goto, sheet: &[u8]) -> Step
+    requires { (1 ≤ at.i) × (at.i ≤ place_bound) × (1 ≤ at.c) }
+    ensures { joined result sheet.now ≡ paired finale at.i at.b at.c sheet.now }
 {
-    if is_weak(b, c) {
-        go_weakly(finale, j - 1, b, c, sheet)
+    if is_weak(at.b, at.c) {
+        go_weakly(finale, Goto { i: at.i - 1, ..at }, sheet)
     } else {
-        Step::Goto {
-            label: Label::Phase4v,
-            i: j + 1,
-            b,
-            c,
-        }
+        at.to(Label::Phase4v, at.i + 1)
     }
 }
 
 // Vowel, consonant, consonant, vowel.
 #[tactic(auto, unfolding(crate::specs::Middles::between))]
-fn go_between(finale: usize, i: usize, j: usize, b: u8, c: u8, sheet: &[u8]) -> Step
-    requires { (1 ≤ j) × (j ≤ place_bound) × (1 ≤ c) }
-    ensures { joined result sheet.now ≡ between finale i j b c sheet.now }
+fn go_between(finale: usize, at: Goto, j: usize, sheet: &[u8]) -> Step
+    requires { (1 ≤ j) × (j ≤ place_bound) × (1 ≤ at.c) }
+    ensures { joined result sheet.now ≡ between finale at.i j at.b at.c sheet.now }
 {
-    if is_pair(b, c) {
-        go_paired(finale, j, b, c, sheet)
+    if is_pair(at.b, at.c) {
+        go_paired(finale, Goto { i: j, ..at }, sheet)
     } else {
-        Step::Goto {
-            label: Label::Marki,
-            i,
-            b,
-            c,
-        }
+        at.to(Label::Marki, at.i)
     }
 }
 
 // A vowel is wanted at j.
 #[tactic(auto, unfolding(crate::specs::Middles::third))]
-fn go_third(finale: usize, i: usize, j: usize, b: u8, c: u8, sheet: &[u8]) -> Step
-    requires { (1 ≤ j) × (j ≤ place_bound) × (1 ≤ c) }
-    ensures { joined result sheet.now ≡ third finale i j b c sheet.now }
+fn go_third(finale: usize, at: Goto, j: usize, sheet: &[u8]) -> Step
+    requires { (1 ≤ j) × (j ≤ place_bound) × (1 ≤ at.c) }
+    ensures { joined result sheet.now ≡ third finale at.i j at.b at.c sheet.now }
 {
     let d = code_at(sheet, j);
     if d == 0 {
-        Step::Phase5
+        None
     } else if is_vowel(d) {
-        go_between(finale, i, j, b, c, sheet)
+        go_between(finale, at, j, sheet)
     } else {
-        Step::Goto {
-            label: Label::Phase4c,
-            i: j + 1,
-            b,
-            c,
-        }
+        at.to(Label::Phase4c, j + 1)
     }
 }
 
@@ -241,55 +218,37 @@ fn joins(c: u8, next: u8) -> bool
 
 // The second consonant, joined with an h or not.
 #[tactic(auto, using(crate::proofs::Aspirates::with_h_some), unfolding(crate::specs::Middles::second))]
-fn go_second(finale: usize, i: usize, b: u8, c: u8, sheet: &[u8]) -> Step
-    requires { (i + 2 ≤ place_bound) × (1 ≤ c) }
-    ensures { joined result sheet.now ≡ second finale i b c sheet.now }
+fn go_second(finale: usize, at: Goto, sheet: &[u8]) -> Step
+    requires { (at.i + 2 ≤ place_bound) × (1 ≤ at.c) }
+    ensures { joined result sheet.now ≡ second finale at.i at.b at.c sheet.now }
 {
-    if joins(c, code_at(sheet, i + 1)) {
-        go_third(finale, i, i + 2, b, with_h(c), sheet)
+    if joins(at.c, code_at(sheet, at.i + 1)) {
+        let c = with_h(at.c);
+        go_third(finale, Goto { c, ..at }, at.i + 2, sheet)
     } else {
-        go_third(finale, i, i + 1, b, c, sheet)
+        go_third(finale, at, at.i + 1, sheet)
     }
 }
 
 // A consonant b behind a vowel and the letter c behind it.
 #[tactic(auto, using(sheet1980::proofs::Sheets::consonant), unfolding(crate::specs::Middles::pair))]
-fn go_pair(finale: usize, i: usize, b: u8, c: u8, sheet: &[u8]) -> Step
-    requires { (1 ≤ i) × (i + 2 ≤ place_bound) }
-    ensures { joined result sheet.now ≡ pair finale i b c sheet.now }
+fn go_pair(finale: usize, at: Goto, sheet: &[u8]) -> Step
+    requires { (1 ≤ at.i) × (at.i + 2 ≤ place_bound) }
+    ensures { joined result sheet.now ≡ pair finale at.i at.b at.c sheet.now }
 {
-    if b == LETTER_Q && c == LETTER_U {
-        Step::Goto {
-            label: Label::Marki,
-            i: i - 1,
-            b,
-            c,
-        }
-    } else if is_vowel(c) {
-        Step::Goto {
-            label: Label::Checkc,
-            i: i + 1,
-            b,
-            c,
-        }
-    } else if b == c {
-        go_doubled(i, b, c, sheet)
-    } else if joins(b, c) {
-        Step::Goto {
-            label: Label::Phase4vc,
-            i: i + 1,
-            b: with_h(b),
-            c,
-        }
-    } else if c == LETTER_K && b == LETTER_C {
-        Step::Goto {
-            label: Label::Marki,
-            i: i + 1,
-            b,
-            c,
-        }
+    if at.b == LETTER_Q && at.c == LETTER_U {
+        at.to(Label::Marki, at.i - 1)
+    } else if is_vowel(at.c) {
+        at.to(Label::Checkc, at.i + 1)
+    } else if at.b == at.c {
+        go_doubled(at, sheet)
+    } else if joins(at.b, at.c) {
+        let b = with_h(at.b);
+        Goto { b, ..at }.to(Label::Phase4vc, at.i + 1)
+    } else if at.c == LETTER_K && at.b == LETTER_C {
+        at.to(Label::Marki, at.i + 1)
     } else {
-        go_second(finale, i, b, c, sheet)
+        go_second(finale, at, sheet)
     }
 }
 
@@ -305,93 +264,69 @@ fn ends_in_er(i: usize, sheet: &[u8]) -> bool
 
 // A hyphen before the letter at i.
 #[tactic(auto, unfolding(crate::specs::Middles::mark_at))]
-fn go_marki(i: usize, b: u8, sheet: &mut [u8]) -> Step
-    requires { i ≤ place_bound }
-    ensures { joined result sheet.new ≡ mark_at i b sheet.old }
+fn go_marki(at: Goto, sheet: &mut [u8]) -> Step
+    requires { at.i ≤ place_bound }
+    ensures { joined result sheet.new ≡ mark_at at.i at.b sheet.old }
 {
-    if code_at(sheet, i + 1) == 0 {
-        return Step::Phase5;
+    if code_at(sheet, at.i + 1) == 0 {
+        return None;
     }
-    let c = code_at(sheet, i);
-    clear_at(sheet, i);
-    Step::Goto {
-        label: Label::Vowelscan,
-        i,
-        b,
-        c,
-    }
+    let c = code_at(sheet, at.i);
+    clear_at(sheet, at.i);
+    Goto { c, ..at }.to(Label::Vowelscan, at.i)
 }
 
 // Vowels up to a consonant.
 #[tactic(auto, unfolding(crate::specs::Middles::pass_vowel))]
-fn go_vowel(i: usize, c: u8, sheet: &[u8]) -> Step
-    requires { i ≤ place_bound }
-    ensures { joined result sheet.now ≡ pass_vowel i c sheet.now }
+fn go_vowel(at: Goto, sheet: &[u8]) -> Step
+    requires { at.i ≤ place_bound }
+    ensures { joined result sheet.now ≡ pass_vowel at.i at.c sheet.now }
 {
-    let b = code_at(sheet, i);
+    let b = code_at(sheet, at.i);
     let (label, c) = if is_vowel(b) {
         (Label::Checkc, b)
     } else {
-        (Label::Phase4vc, c)
+        (Label::Phase4vc, at.c)
     };
-    Step::Goto {
-        label,
-        i: i + 1,
-        b,
-        c,
-    }
+    Goto { b, c, ..at }.to(label, at.i + 1)
 }
 
 // Consonants up to a vowel.
 #[tactic(auto, unfolding(crate::specs::Middles::scan_vowel))]
-fn go_vowelscan(i: usize, b: u8, c: u8) -> Step
-    requires { i ≤ place_bound }
-    ensures { Joins result (scan_vowel i b c) }
+fn go_vowelscan(at: Goto) -> Step
+    requires { at.i ≤ place_bound }
+    ensures { Joins result (scan_vowel at.i at.b at.c) }
 {
-    let label = if is_vowel(c) {
+    let label = if is_vowel(at.c) {
         Label::Checkc
     } else {
         Label::Phase4c
     };
-    Step::Goto {
-        label,
-        i: i + 1,
-        b,
-        c,
-    }
+    at.to(label, at.i + 1)
 }
 
 // From a label to the next.
 #[tactic(auto, unfolding(crate::specs::Middles::onward))]
-fn go_onward(finale: usize, label: Label, i: usize, b: u8, c: u8, sheet: &mut [u8]) -> Step
-    requires { (1 ≤ i) × (i + 2 ≤ place_bound) }
-    ensures { joined result sheet.new ≡ onward finale label i b c sheet.old }
+fn go_onward(finale: usize, at: Goto, sheet: &mut [u8]) -> Step
+    requires { (1 ≤ at.i) × (at.i + 2 ≤ place_bound) }
+    ensures { joined result sheet.new ≡ onward finale at.label at.i at.b at.c sheet.old }
 {
-    match label {
-        Label::Marki => go_marki(i, b, sheet),
-        Label::Phase4c => Step::Goto {
-            label: Label::Vowelscan,
-            i,
-            b,
-            c: code_at(sheet, i),
-        },
-        Label::Vowelscan => go_vowelscan(i, b, c),
-        Label::Checkc if c == 0 => Step::Phase5,
-        Label::Checkc => Step::Goto {
-            label: Label::Phase4v,
-            i,
-            b,
-            c,
-        },
-        Label::Phase4v => go_vowel(i, c, sheet),
-        Label::Phase4vc => go_pair(finale, i, b, code_at(sheet, i), sheet),
-        Label::Ertest if ends_in_er(i, sheet) => Step::Phase5,
-        Label::Ertest => Step::Goto {
-            label: Label::Marki,
-            i,
-            b,
-            c,
-        },
+    match at.label {
+        Label::Marki => go_marki(at, sheet),
+        Label::Phase4c => {
+            let c = code_at(sheet, at.i);
+            Goto { c, ..at }.to(Label::Vowelscan, at.i)
+        }
+        Label::Vowelscan => go_vowelscan(at),
+        Label::Checkc if at.c == 0 => None,
+        Label::Checkc => at.to(Label::Phase4v, at.i),
+        Label::Phase4v => go_vowel(at, sheet),
+        Label::Phase4vc => {
+            let c = code_at(sheet, at.i);
+            go_pair(finale, Goto { c, ..at }, sheet)
+        }
+        Label::Ertest if ends_in_er(at.i, sheet) => None,
+        Label::Ertest => at.to(Label::Marki, at.i),
     }
 }
 
@@ -401,7 +336,7 @@ pub fn mark_middle(finale: usize, n: usize, from: Step, sheet: &mut [u8])
     ensures { sheet.new ≡ phase4 n finale (joined from sheet.old) }
 {
     let mut step = from;
-    while let Step::Goto { label, i, b, c } = step {
-        step = go_onward(finale, label, i, b, c, sheet);
+    while let Some(at) = step {
+        step = go_onward(finale, at, sheet);
     }
 }

@@ -1,13 +1,14 @@
 -- One law for each way through the code.
 use Prim.Native.Nat.{ℕ, zero, suc, ◌+◌, ◌≤◌, ◌<◌}
 use mathlib.Core.Bool.{Bool, true, false, cond, not, ◌||◌, ◌&&◌}
-use mathlib.Core.List.{List, [], ◌∷◌, map}
+use mathlib.Core.List.{List, [], ◌∷◌, ◌++◌, map}
 use mathlib.Core.Path.{◌≡◌, refl, sym, ◌∙◌, ap, subst}
 use native.Mathlib.Omega.{arith}
 use borrow.Author.Tests.{eq-eqb, ne_eqb, eqb-true, eqb-false, le-leb, lt-leb, lt-ltb, le-ltb}
 use lib.Dec.{eqb, leb}
-use lib.ListN.{length, get_or, take, set, replicate, length-replicate}
+use lib.ListN.{length, get_or, take, drop, set, replicate, length-replicate, drop_of_length-le}
 use lib.Seq.{sets, length-sets, length-take-le, get_or-set_same}
+use Rattle.std.proofs.lemmas.List.{take_all, append-nil}
 use Rattle.std.specs.List.{list_any, starts_with}
 use Rattle.base.proofs.Lists.{both, test_iff}
 use Rattle.io.specs.Counts.{IsPrefixLen}
@@ -119,32 +120,9 @@ pub ended_whole : (path : List ℕ) {name : List ℕ} → name ≡ name_room 0 p
 unfolding ended_path
 ended_whole path e = ap (λ (l : List ℕ). set l 4095 0) e
 
--- chance turned into letters, byte by byte
-unfoldable pub lettered_to : List ℕ → ℕ → List ℕ
-lettered_to chance zero = chance
-lettered_to [] (suc i) = []
-lettered_to (b ∷ chance) (suc i) = letter_by b ∷ lettered_to chance i
-
-pub letter_start : (chance : List ℕ) → chance ≡ lettered_to chance 0
-unfolding lettered_to
-letter_start chance = refl
-
-one_more : (chance : List ℕ) (i : ℕ) → i < length chance → set (lettered_to chance i) i (letter_by (get_or (lettered_to chance i) i 0)) ≡ lettered_to chance (suc i)
-unfolding lettered_to
-one_more [] i h = absurd (omega (arith, h))
-one_more (b ∷ chance) zero h = refl
-one_more (b ∷ chance) (suc i) h = ap (λ (l : List ℕ). letter_by b ∷ l) (one_more chance i (omega (arith, h)))
-
-pub letter_turn : (chance : List ℕ) (i : ℕ) → i < length chance → {name : List ℕ} → name ≡ lettered_to chance i → set name i (letter_by (get_or name i 0)) ≡ lettered_to chance (i + 1)
-letter_turn chance i h e = let n : i + 1 ≡ suc i = omega arith in rw (e, n) (one_more chance i h)
-
-all_letters : (chance : List ℕ) (i : ℕ) → length chance ≤ i → lettered_to chance i ≡ map letter_by chance
-unfolding lettered_to
-all_letters [] zero h = refl
-all_letters [] (suc i) h = refl
-all_letters (b ∷ chance) zero h = absurd (omega (arith, h))
-all_letters (b ∷ chance) (suc i) h = ap (λ (l : List ℕ). letter_by b ∷ l) (all_letters chance i (omega (arith, h)))
-
-pub letter_end : (chance : List ℕ) (i : ℕ) → length chance ≤ i → {name : List ℕ} → name ≡ lettered_to chance i → {end : ℕ} {after : List ℕ} → Named 0 fresh_mark name end after → after ≡ fresh_name chance
+-- chance turned into letters, and the mark put over the first of them
+pub letter_end : (chance : List ℕ) (i : ℕ) → length chance ≤ i → {name : List ℕ} → name ≡ map letter_by (take i chance) ++ drop i chance → {end : ℕ} {after : List ℕ} → Named 0 fresh_mark name end after → after ≡ fresh_name chance
 unfolding fresh_name
-letter_end chance i h e p = p.memory ∙ ap (λ (l : List ℕ). name_room 0 fresh_mark l) (e ∙ all_letters chance i h)
+letter_end chance i h e p =
+    let whole : map letter_by (take i chance) ++ drop i chance ≡ map letter_by chance = rw (take_all i chance h, drop_of_length-le chance h) (append-nil (map letter_by chance)) in
+    p.memory ∙ ap (λ (l : List ℕ). name_room 0 fresh_mark l) (e ∙ whole)

@@ -3,12 +3,11 @@ use Prim.Native.Nat.{ℕ, zero, suc, ◌+◌, ◌*◌, ◌<◌}
 use mathlib.Core.List.{List}
 use mathlib.Core.Path.{◌≡◌, refl, sym, ◌∙◌, ap, subst}
 use native.Mathlib.Omega.{arith}
+use Rattle.std.specs.Prelude.{Some, None}
 use Rattle.tables1980.specs.Prefix.{prefix}
 use Rattle.sheet1980.specs.Sheet.{u, mem, Sheet}
-use Rattle.middle1980.specs.Joined.{Placed}
+use Rattle.middle1980.specs.Joined.{Step, Placed}
 use Rattle.middle1980.specs.Joined as middle
-use Rattle.middle1980.specs.declared.Step.{Step}
-use Rattle.middle1980.specs.declared.Step.TheVariants as step
 use Rattle.prefix1980.specs.Prefixes.{Prefixes, Interpp, Stops, decode, restartp, interpp, RanOut, Stopped, prefixes, phase3}
 use Rattle.prefix1980.specs.declared.Instruction.{Instruction}
 use Rattle.prefix1980.specs.declared.Row.{Row}
@@ -37,8 +36,8 @@ start budget n s {c} k h p =
     same = rw p
 
 split : {n : ℕ} (y : Step) (sheet : List ℕ) → Begins n (middle.joined y sheet) → Sheet n sheet × Placed n y
-split (step.Goto label i b c) sheet p = p
-split step.Phase5 sheet p = (p, tt)
+split (Some at) sheet p = p
+split None sheet p = (p, tt)
 
 module _ (budget n : ℕ) (whole : List ℕ) (left : ℕ) (r : Row) (sheet : List ℕ) (g : Going budget n whole left r sheet) where
   pub out : left ≡ 0 → RanOut ≡ phase3 budget whole

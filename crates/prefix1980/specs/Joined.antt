@@ -3,9 +3,8 @@ use Rattle.std.specs.Prelude.{ℕ, List, Option, Some, None}
 use Rattle.std.proofs.Common.{ControlFlow, Continue, Break}
 use Rattle.sheet1980.specs.Sheet.{Sheet}
 use Rattle.sheet1980.specs.declared.Stopped as machine
-use Rattle.middle1980.specs.Joined.{Placed}
+use Rattle.middle1980.specs.Joined.{Step, Placed}
 use Rattle.middle1980.specs.Joined as middle
-use Rattle.middle1980.specs.declared.Step.{Step}
 use Rattle.prefix1980.specs.Prefixes.{Prefixes, Interpp, Stops, Prefixed, RanOut, Stopped}
 use Rattle.prefix1980.specs.declared.Row.{Row}
 

@@ -1,15 +1,15 @@
 // Phase 3 of the 1980 machine: the removal of prefixes. CR 4. Names are 004's.
 #![tactic(auto)]
 
-ghost use Rattle.std.specs.Prelude.{◌≡◌, cond, ◌+◌, ◌-◌, ◌<◌, ◌≤◌, eqb};
+ghost use Rattle.std.specs.Prelude.{◌≡◌, Some, cond, ◌+◌, ◌-◌, ◌<◌, ◌≤◌, eqb};
+ghost use Rattle.std.proofs.Common.{Break};
 ghost use Rattle.base.specs.Limits.{word_limit1980, short_word1980};
 ghost use Rattle.tables1980.specs.Words.{◌ε◌};
 ghost use Rattle.sheet1980.specs.Sheet.{place_bound, mem, clear, Sheet};
-ghost use Rattle.middle1980.specs.declared.Step.TheVariants as step;
 ghost use Rattle.prefix1980.specs.Prefixes.{decode, reenter, interpp, phase3};
 ghost use Rattle.prefix1980.specs.Joined.{joined, told, Ready};
 
-use middle1980::{Label, Step};
+use middle1980::{Goto, Label, Step};
 use sheet1980::{Stopped, U, clear_at, code_at};
 use std::ops::ControlFlow::{self, Break, Continue};
 use tables1980::{has_bit, prefix_table, word_at};
@@ -37,16 +37,16 @@ pub struct Row {
 }
 
 impl Row {
-    // On to a label of phase 4; its register b isn't in use yet.
-    fn to(self, label: Label) -> Step
-        ensures { result ≡ step.Goto label self.i 0 self.c }
+    // Out of it to a label of phase 4; its register b isn't in use yet.
+    fn to(self, label: Label, i: usize) -> Turn
+        ensures { result ≡ Break (Some (record { label = label; i = i; b = 0; c = self.c })) }
     {
-        Step::Goto {
+        Break(Some(Goto {
             label,
-            i: self.i,
+            i,
             b: 0,
             c: self.c,
-        }
+        }))
     }
 }
 
@@ -134,28 +134,26 @@ fn interpret(at: Row, sheet: &mut [u8], x: Instruction) -> Turn
         Instruction::Repeat { t } => {
             let behind = at.i.saturating_sub(t as usize) + 1;
             if code_at(sheet, behind) == 0 {
-                Break(Step::Phase5)
+                Break(None)
             } else {
                 reenter_at(behind, sheet)
             }
         }
         Instruction::Mark { t } => {
             mark_back(t, at.i, sheet);
-            Break(at.to(Label::Marki))
+            at.to(Label::Marki, at.i)
         }
-        Instruction::Table { letters } if is_in_table(sheet, at.i, letters) => Break(at.to(
-            Label::Marki,
-        )),
-        Instruction::Table { .. } => Break(Step::Goto {
-            label: Label::Vowelscan,
-            i: at.j,
-            b: 0,
-            c: at.c,
-        }),
-        Instruction::Fail => Break(Step::Phase5),
-        Instruction::Vow => Break(at.to(Label::Phase4v)),
-        Instruction::Cons => Break(at.to(Label::Phase4c)),
-        Instruction::Confusion => Break(Step::Phase5),
+        Instruction::Table { letters } => {
+            if is_in_table(sheet, at.i, letters) {
+                at.to(Label::Marki, at.i)
+            } else {
+                at.to(Label::Vowelscan, at.j)
+            }
+        }
+        Instruction::Fail => Break(None),
+        Instruction::Vow => at.to(Label::Phase4v, at.i),
+        Instruction::Cons => at.to(Label::Phase4c, at.i),
+        Instruction::Confusion => Break(None),
     }
 }
 

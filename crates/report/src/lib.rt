@@ -8,7 +8,7 @@ ghost use Rattle.words.specs.Symbols.{line_feed, hyphen};
 ghost use Rattle.report.specs.Report.{list_field, told_line, refusal_line, sums_line, line_for, Reports};
 
 use base::Ground;
-use hyphenation::Found;
+use hyphenation::{Found, Setting};
 
 // Every line of a word fits into this many bytes (specs/Report.antt, line_limit).
 pub const LINE_LIMIT: usize = 2 * base::WORD_LIMIT + 2;
@@ -83,21 +83,17 @@ pub fn put_line(marks: &[u8], word: &[u8], room: &mut [u8], at: usize) -> usize
 }
 
 // The line of a word, where margins, lists and table were judged before. `marks` is a break room.
-pub fn put_word<'a>(
-    left: usize,
-    right: usize,
+pub fn put_word(
+    setting: &Setting,
     word: &[u8],
-    customer: &'a [u8],
-    house: &'a [u8],
-    table: &[u8],
     marks: &mut [u8],
     room: &mut [u8],
     at: usize,
 ) -> Line
-    requires { at + length (line_for left right word.now customer.now house.now table.now (length marks.old)) ≤ length room.old }
-    ensures { Reports left right word.now customer.now house.now table.now marks.old room.old at result marks.new room.new }
+    requires { at + length (line_for setting.now.left setting.now.right word.now setting.now.customer.now setting.now.house.now setting.now.table.now (length marks.old)) ≤ length room.old }
+    ensures { Reports setting.now.left setting.now.right word.now setting.now.customer.now setting.now.house.now setting.now.table.now marks.old room.old at result marks.new room.new }
 {
-    match hyphenation::hyphenate_word(left, right, word, customer, house, table, marks) {
+    match hyphenation::hyphenate_word(setting, word, marks) {
         Ok(Found { looks, .. }) => Line {
             end: put_line(marks, word, room, at),
             summed: looks,

@@ -6,6 +6,7 @@
 
 use base::Ground;
 use gauge::{Fitting, Gauge};
+use hyphenation::Setting;
 
 // "Empty list: C 1, E 0, 12 bytes": a table in which no walk finds anything.
 const EMPTY_TABLE: [u8; 12] = [1, 1, 0, 1, 0, 0, 2, 0, 0, 0, 0, 0];
@@ -60,15 +61,14 @@ fn gaps(room: &[u8]) {
 
 fn breaks<'a>(left: usize, right: usize, sample: &[u8], customer: &'a [u8], house: &'a [u8]) {
     let mut room = [0u8; base::ROOM_SIZE];
-    let answer = hyphenation::hyphenate(
+    let setting = Setting {
         left,
         right,
-        sample,
         customer,
         house,
-        &EMPTY_TABLE,
-        &mut room,
-    );
+        table: &EMPTY_TABLE,
+    };
+    let answer = hyphenation::hyphenate(&setting, sample, &mut room);
     io::write_all(1, sample);
     put_numbers(&[left, right]);
     io::write_all(1, b":");

@@ -10,6 +10,7 @@ ghost use Rattle.running.specs.Calls.{passes_end, setting_grounds, piece_grounds
 
 use base::Ground;
 use flowing::Flow;
+use hyphenation::Setting;
 use states::TextState;
 
 // What a call wrote: the length of the text, and the count of the words that it finished.
@@ -27,18 +28,12 @@ pub struct Taken {
 }
 
 // The grounds that both calls ask first: 1, 8, 6, 9.
-pub fn judge_setting(
-    left: usize,
-    right: usize,
-    customer: &[u8],
-    house: &[u8],
-    table: &[u8],
-) -> Result<(), Ground>
-    ensures { says result ≡ first_of (Finds []) (setting_grounds left right customer.now house.now table.now) }
+pub fn judge_setting(setting: &Setting) -> Result<(), Ground>
+    ensures { says result ≡ first_of (Finds []) (setting_grounds setting.now.left setting.now.right setting.now.customer.now setting.now.house.now setting.now.table.now) }
 {
-    hyphenation::judge_margins(left, right)?;
-    lists::judge_lists(customer, house)?;
-    table::judge_table(table)
+    hyphenation::judge_margins(setting.left, setting.right)?;
+    lists::judge_lists(setting.customer, setting.house)?;
+    table::judge_table(setting.table)
 }
 
 // Do n bytes take a text of this total past its limit?
@@ -53,19 +48,15 @@ fn is_past(total: usize, n: usize) -> bool
 
 // The grounds of a piece of n bytes, where so many are held and the text has this total: 1, 8, 6, 9, 21, 14.
 pub fn judge_piece(
-    left: usize,
-    right: usize,
-    customer: &[u8],
-    house: &[u8],
-    table: &[u8],
+    setting: &Setting,
     total: usize,
     held: u8,
     n: usize,
     size: usize,
 ) -> Result<(), Ground>
-    ensures { says result ≡ first_of (Finds []) (piece_grounds left right customer.now house.now table.now total held n size) }
+    ensures { says result ≡ first_of (Finds []) (piece_grounds setting.now.left setting.now.right setting.now.customer.now setting.now.house.now setting.now.table.now total held n size) }
 {
-    judge_setting(left, right, customer, house, table)?;
+    judge_setting(setting)?;
     if is_past(total, n) {
         return Err(Ground::RunningLong);
     }
@@ -76,18 +67,10 @@ pub fn judge_piece(
 }
 
 // The grounds of the end, where so many bytes are held: 1, 8, 6, 9, 14.
-pub fn judge_end(
-    left: usize,
-    right: usize,
-    customer: &[u8],
-    house: &[u8],
-    table: &[u8],
-    held: u8,
-    size: usize,
-) -> Result<(), Ground>
-    ensures { says result ≡ first_of (Finds []) (end_grounds left right customer.now house.now table.now held size) }
+pub fn judge_end(setting: &Setting, held: u8, size: usize) -> Result<(), Ground>
+    ensures { says result ≡ first_of (Finds []) (end_grounds setting.now.left setting.now.right setting.now.customer.now setting.now.house.now setting.now.table.now held size) }
 {
-    judge_setting(left, right, customer, house, table)?;
+    judge_setting(setting)?;
     if rooms::is_short(size, base::ROOM_PER_BYTE * held as usize) {
         return Err(Ground::TextRoomShort);
     }
@@ -95,18 +78,9 @@ pub fn judge_end(
 }
 
 // A judged piece.
-fn flow_piece<'a>(
-    s: TextState,
-    left: usize,
-    right: usize,
-    customer: &'a [u8],
-    house: &'a [u8],
-    table: &[u8],
-    piece: &[u8],
-    room: &mut [u8],
-) -> Taken
+fn flow_piece(s: TextState, setting: &Setting, piece: &[u8], room: &mut [u8]) -> Taken
     requires { Left s × (s.total + length piece.now ≤ running_text) × (room_per_byte * (s.size + length piece.now) ≤ length room.old) }
-    ensures { PiecesDone s left right customer.now house.now table.now piece.now room.old result room.new }
+    ensures { PiecesDone s setting.now.left setting.now.right setting.now.customer.now setting.now.house.now setting.now.table.now piece.now room.old result room.new }
 {
     let mut held = s.held;
     let start = Flow {
@@ -115,9 +89,7 @@ fn flow_piece<'a>(
         at: 0,
         looks: 0,
     };
-    let end = flowing::take_bytes(
-        left, right, customer, house, table, piece, &mut held, room, start,
-    );
+    let end = flowing::take_bytes(setting, piece, &mut held, room, start);
     rooms::clear_from(&mut held, end.size, base::HELD_LIMIT);
     let state = TextState {
         held: held,
@@ -135,73 +107,37 @@ fn flow_piece<'a>(
 }
 
 // The bytes held, of which the buffer has as many as the size says: finished.
-fn flow_end<'a>(
-    held: &[u8],
-    size: usize,
-    left: usize,
-    right: usize,
-    customer: &'a [u8],
-    house: &'a [u8],
-    table: &[u8],
-    room: &mut [u8],
-) -> Result<Written, Ground>
+fn flow_end(held: &[u8], size: usize, setting: &Setting, room: &mut [u8]) -> Written
     requires { (size ≤ length held.now) × (can_be_held (take size held.now) ≡ true) × (room_per_byte * size ≤ length room.old) }
-    ensures { EndsDone (take size held.now) left right customer.now house.now table.now room.old result room.new }
+    ensures { EndsDone (take size held.now) setting.now.left setting.now.right setting.now.customer.now setting.now.house.now setting.now.table.now room.old (Ok result) room.new }
 {
-    let shown = flowing::put_held(left, right, customer, house, table, &held[0..size], room, 0);
-    Ok(Written {
+    let shown = flowing::put_held(setting, &held[0..size], room, 0);
+    Written {
         length: shown.end,
         looks: shown.looks,
-    })
+    }
 }
 
 // A piece of a running text. Margins, lists and table come with it, and are judged first.
-pub fn take_piece<'a>(
-    state: TextState,
-    left: usize,
-    right: usize,
-    customer: &'a [u8],
-    house: &'a [u8],
-    table: &[u8],
-    piece: &[u8],
-    room: &mut [u8],
-) -> Taken
-    ensures { Pieces state left right customer.now house.now table.now piece.now room.old result room.new }
+pub fn take_piece(state: TextState, setting: &Setting, piece: &[u8], room: &mut [u8]) -> Taken
+    ensures { Pieces state setting.now.left setting.now.right setting.now.customer.now setting.now.house.now setting.now.table.now piece.now room.old result room.new }
 {
     let s = states::read_state(state);
-    if let Err(g) = judge_piece(
-        left,
-        right,
-        customer,
-        house,
-        table,
-        s.total as usize,
-        s.size,
-        piece.len(),
-        room.len(),
-    ) {
+    if let Err(g) = judge_piece(setting, s.total as usize, s.size, piece.len(), room.len()) {
         return Taken {
             state: state, // as it was given
             answer: Err(g),
         };
     }
-    flow_piece(s, left, right, customer, house, table, piece, room)
+    flow_piece(s, setting, piece, room)
 }
 
 // The end of a running text: what is held goes out, and the next piece begins a new text.
-pub fn end_text<'a>(
-    state: TextState,
-    left: usize,
-    right: usize,
-    customer: &'a [u8],
-    house: &'a [u8],
-    table: &[u8],
-    room: &mut [u8],
-) -> Taken
-    ensures { Ends state left right customer.now house.now table.now room.old result room.new }
+pub fn end_text(state: TextState, setting: &Setting, room: &mut [u8]) -> Taken
+    ensures { Ends state setting.now.left setting.now.right setting.now.customer.now setting.now.house.now setting.now.table.now room.old result room.new }
 {
     let s = states::read_state(state);
-    if let Err(g) = judge_end(left, right, customer, house, table, s.size, room.len()) {
+    if let Err(g) = judge_end(setting, s.size, room.len()) {
         return Taken {
             state: state, // the text stays open
             answer: Err(g),
@@ -210,15 +146,6 @@ pub fn end_text<'a>(
     let held = s.held;
     Taken {
         state: states::new_text(),
-        answer: flow_end(
-            &held,
-            s.size as usize,
-            left,
-            right,
-            customer,
-            house,
-            table,
-            room,
-        ),
+        answer: Ok(flow_end(&held, s.size as usize, setting, room)),
     }
 }

@@ -4,7 +4,7 @@
 ghost use Rattle.std.specs.Prelude.{◌≡◌, cond, not, ◌&&◌, ◌||◌, ◌+◌, ◌-◌, ◌<◌, ◌≤◌, eqb};
 ghost use Rattle.base.specs.Limits.{word_limit1980, short_word1980};
 ghost use Rattle.tables1980.specs.Words.{o, ◌ε◌};
-ghost use Rattle.tables1980.specs.Suffix.{suffix_words, suffix};
+ghost use Rattle.tables1980.specs.Suffix.{suffix};
 ghost use Rattle.sheet1980.specs.Sheet.{u, place_bound, mem, clear, Sheet};
 ghost use Rattle.suffix1980.specs.Suffixes.{decode, final_at, restarts, marksuf, interps, phase2};
 ghost use Rattle.suffix1980.specs.Joined.{joined, Branched, told, Ready};

@@ -82,5 +82,5 @@ module _ (heights credits words : List ℕ) (test : ℕ → ℕ → Bool) (most 
   row_right h =
       let l : k < length words = omega (arith, inside heights k h, same) in
       let a = and_T (leb (get_or heights k 0) most) (test k (get_or words k 0))
-          (cond_true (ltb 0 (get_or heights k 0)) (leb (get_or heights k 0) most && test k (get_or words k 0)) (passed l).1 (lt-ltb 0 (get_or heights k 0) h)) in
+      (cond_true (ltb 0 (get_or heights k 0)) (leb (get_or heights k 0) most && test k (get_or words k 0)) (passed l).1 (lt-ltb 0 (get_or heights k 0) h)) in
       (leb→le (get_or heights k 0) most a.0, a.1)

@@ -280,6 +280,7 @@ static PAIRS: [u64; PAIR_ROWS] = [
 ];
 
 // The tables by name: whoever runs a machine reads its table in place, and a proof above sees the list's name and not its numbers.
+// (d) One function for both would only take the table's name as its argument.
 pub fn suffix_table() -> &'static [u64; ROWS]
     ensures { result.now ≡ suffix_words }
 {

@@ -15,7 +15,7 @@ ghost use Rattle.tteolmigu.specs.Bits.{bits_at, told_bits, refusal_bits, found_b
 
 use base::Ground;
 use gauge::{Fitting, Gauge};
-use hyphenation::Found;
+use hyphenation::{Found, Setting};
 use lookup::Located;
 use machine1980::Reprint;
 use running::{Taken, Written};
@@ -200,7 +200,7 @@ fn put_taken(taken: Taken, state: &mut [u8; states::STATE_SIZE]) -> u64
     }
 }
 
-// The hyphenating call.
+// The hyphenating call. Its parameters, and those of the calls below, are the exports'.
 pub fn tteolmigu_hyphenate<'a>(
     left: u64,
     right: u64,
@@ -213,15 +213,14 @@ pub fn tteolmigu_hyphenate<'a>(
     ensures bits { result ≡ answer_bits (breaks_answer left right word.now customer.now house.now table.now (length room.old)) }
     ensures memory { room.new ≡ breaks_room left right word.now customer.now house.now table.now room.old }
 {
-    answer_bits(hyphenation::hyphenate(
-        left as usize,
-        right as usize,
-        word,
+    let setting = Setting {
+        left: left as usize,
+        right: right as usize,
         customer,
         house,
         table,
-        room,
-    ))
+    };
+    answer_bits(hyphenation::hyphenate(&setting, word, room))
 }
 
 // The levels call.
@@ -294,17 +293,15 @@ pub fn tteolmigu_piece<'a>(
     ensures state { state.new ≡ bytes_left (piece_answer (of_bytes state.old) left right customer.now house.now table.now piece.now (length room.old)) state.old (piece_next (of_bytes state.old) left right customer.now house.now table.now piece.now (length room.old)) }
     ensures memory { room.new ≡ piece_room (of_bytes state.old) left right customer.now house.now table.now piece.now room.old }
 {
-    let given = states::read_bytes(state);
-    let taken = running::take_piece(
-        given,
-        left as usize,
-        right as usize,
+    let setting = Setting {
+        left: left as usize,
+        right: right as usize,
         customer,
         house,
         table,
-        piece,
-        room,
-    );
+    };
+    let given = states::read_bytes(state);
+    let taken = running::take_piece(given, &setting, piece, room);
     put_taken(taken, state)
 }
 
@@ -322,15 +319,14 @@ pub fn tteolmigu_end<'a>(
     ensures state { state.new ≡ bytes_left (end_answer (of_bytes state.old) left right customer.now house.now table.now (length room.old)) state.old (end_next (of_bytes state.old) left right customer.now house.now table.now (length room.old)) }
     ensures memory { room.new ≡ end_room (of_bytes state.old) left right customer.now house.now table.now room.old }
 {
-    let given = states::read_bytes(state);
-    let taken = running::end_text(
-        given,
-        left as usize,
-        right as usize,
+    let setting = Setting {
+        left: left as usize,
+        right: right as usize,
         customer,
         house,
         table,
-        room,
-    );
+    };
+    let given = states::read_bytes(state);
+    let taken = running::end_text(given, &setting, room);
     put_taken(taken, state)
 }

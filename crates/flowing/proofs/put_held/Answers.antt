@@ -11,10 +11,10 @@ pub returns-then-held-last-ne-APOSTROPHE : goal.returns-then-held-last-ne-APOSTR
 returns-then-held-last-ne-APOSTROPHE c = one_shows _ _ _ _ _ c.args.held.now c.if-held-eq0.false c.if-held-last-ne-APOSTROPHE.true c.put_word.ensures
 
 pub put_word-shown-requires : goal.put_word-shown-requires
-put_word-shown-requires c = (cut_good c.args.left c.args.right c.args.customer.now c.args.house.now c.args.table.now c.args.held.now c.if-held-eq0.false c.if-held-last-ne-APOSTROPHE.false c.args.at c.args.room.now c.requires.1 c.requires.0, cut_fits c.args.left c.args.right c.args.customer.now c.args.house.now c.args.table.now c.args.held.now c.if-held-eq0.false c.if-held-last-ne-APOSTROPHE.false c.args.at c.args.room.now c.requires.1)
+put_word-shown-requires c = (cut_good c.args.setting.now.left c.args.setting.now.right c.args.setting.now.customer.now c.args.setting.now.house.now c.args.setting.now.table.now c.args.held.now c.if-held-eq0.false c.if-held-last-ne-APOSTROPHE.false c.args.at c.args.room.now c.requires.1 c.requires.0, cut_fits c.args.setting.now.left c.args.setting.now.right c.args.setting.now.customer.now c.args.setting.now.house.now c.args.setting.now.table.now c.args.held.now c.if-held-eq0.false c.if-held-last-ne-APOSTROPHE.false c.args.at c.args.room.now c.requires.1)
 
 pub put_byte-requires : goal.put_byte-requires
-put_byte-requires c = mark_fits c.args.left c.args.right c.args.customer.now c.args.house.now c.args.table.now c.args.held.now c.if-held-eq0.false c.if-held-last-ne-APOSTROPHE.false c.args.at c.args.room.now c.requires.1 c.put_word-shown.ensures
+put_byte-requires c = mark_fits c.args.setting.now.left c.args.setting.now.right c.args.setting.now.customer.now c.args.setting.now.house.now c.args.setting.now.table.now c.args.held.now c.if-held-eq0.false c.if-held-last-ne-APOSTROPHE.false c.args.at c.args.room.now c.requires.1 c.put_word-shown.ensures
 
 pub returns : goal.returns
-returns c = two_shows c.args.left c.args.right c.args.customer.now c.args.house.now c.args.table.now c.args.held.now c.if-held-eq0.false c.if-held-last-ne-APOSTROPHE.false c.args.at c.args.room.now c.requires.1 c.put_word-shown.ensures c.put_byte.ensures
+returns c = two_shows c.args.setting.now.left c.args.setting.now.right c.args.setting.now.customer.now c.args.setting.now.house.now c.args.setting.now.table.now c.args.held.now c.if-held-eq0.false c.if-held-last-ne-APOSTROPHE.false c.args.at c.args.room.now c.requires.1 c.put_word-shown.ensures c.put_byte.ensures

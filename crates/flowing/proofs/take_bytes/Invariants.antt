@@ -5,7 +5,7 @@ use Rattle.flowing.proofs.Pieces.{Taking}
 use Rattle.flowing.proofs.take_bytes.Given as goal
 
 abbrev pub invariant-loop-i : goal.invariant-loop-i
-invariant-loop-i l = Taking l.left l.right l.customer l.house l.table l.piece l.initial.next l.initial.held l.initial.room l.i l.next l.held l.room
+invariant-loop-i l = Taking l.setting.left l.setting.right l.setting.customer.now l.setting.house.now l.setting.table.now l.piece l.initial.next l.initial.held l.initial.room l.i l.next l.held l.room
 
 abbrev pub decreases-loop-i : goal.decreases-loop-i
 decreases-loop-i l = length l.piece - l.i

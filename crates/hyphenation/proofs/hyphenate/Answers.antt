@@ -10,4 +10,4 @@ pub find_breaks-requires : goal.find_breaks-requires
 find_breaks-requires c = breaks_sizes _ _ _ _ _ _ _ (judged_by (hyphenate_ordered _ _ _ _ _ _ _) c.judge_hyphenate.ensures) c.in_ok-judge_hyphenate.was
 
 pub returns : goal.returns
-returns c = promised (hyphenate_ordered _ _ _ _ _ _ _) (breaks_found _ _ _ _ _ _ _ (judged_by (hyphenate_ordered _ _ _ _ _ _ _) c.judge_hyphenate.ensures) c.in_ok-judge_hyphenate.was c.cells_of-cells.ensures.bytes c.entries_of-entries.ensures.bytes c.find_breaks.ensures)
+returns c = promised (hyphenate_ordered _ _ _ _ _ _ _) (breaks_found _ _ _ _ _ _ _ (judged_by (hyphenate_ordered _ _ _ _ _ _ _) c.judge_hyphenate.ensures) c.in_ok-judge_hyphenate.was c.find_breaks.ensures)

@@ -10,4 +10,4 @@ pub find_breaks-requires : goal.find_breaks-requires
 find_breaks-requires c = word_alone_sizes _ _ (judged_by (word_alone_ordered _ _) c.judge_word_alone.ensures) c.in_ok-judge_word_alone.was
 
 pub returns : goal.returns
-returns c = promised (word_alone_ordered _ _) (breaks_found _ _ _ _ _ _ _ (judged_by (word_alone_ordered _ _) c.judge_word_alone.ensures) c.in_ok-judge_word_alone.was c.cells_of-cells.ensures.bytes c.entries_of-entries.ensures.bytes c.find_breaks.ensures)
+returns c = promised (word_alone_ordered _ _) (breaks_found _ _ _ _ _ _ _ (judged_by (word_alone_ordered _ _) c.judge_word_alone.ensures) c.in_ok-judge_word_alone.was c.find_breaks.ensures)

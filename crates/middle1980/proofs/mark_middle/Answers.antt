@@ -16,11 +16,11 @@ loop-step-smaller c =
     let k = c.args in
     let l = c.loop-step in
     let r = c.go_onward-step in
-    less k.finale k.n (joined k.from k.sheet.now) _ _ _ _ l.sheet l.step c.in-Goto.is l.invariant r.result _ r.ensures
+    less k.finale k.n (joined k.from k.sheet.now) _ l.sheet l.step c.in-Some.is l.invariant r.result _ r.ensures
 
 pub loop-step-preserved : goal.loop-step-preserved
 loop-step-preserved c =
     let k = c.args in
     let l = c.loop-step in
     let r = c.go_onward-step in
-    turned k.finale k.n (joined k.from k.sheet.now) _ _ _ _ l.sheet l.step c.in-Goto.is l.invariant r.result _ r.ensures
+    turned k.finale k.n (joined k.from k.sheet.now) _ l.sheet l.step c.in-Some.is l.invariant r.result _ r.ensures

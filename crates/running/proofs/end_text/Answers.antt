@@ -4,10 +4,10 @@ use Rattle.running.proofs.Order.{end_ordered, promised}
 use Rattle.running.proofs.end_text.Goals as goal
 
 pub returns-in-Err : goal.returns-in-Err
-returns-in-Err c = promised (end_ordered _ _ _ _ _ _ _) (refused _ _ _ _ _ (end_judged c.args.state _ c.read_state-s.ensures c.args.left c.args.right c.args.customer.now c.args.house.now c.args.table.now c.args.room.now (judged_by (end_ordered _ _ _ _ _ _ _) c.judge_end.ensures)) c.in-Err.is)
+returns-in-Err c = promised (end_ordered _ _ _ _ _ _ _) (refused _ _ _ _ _ (end_judged c.args.state _ c.read_state-s.ensures c.args.setting.now.left c.args.setting.now.right c.args.setting.now.customer.now c.args.setting.now.house.now c.args.setting.now.table.now c.args.room.now (judged_by (end_ordered _ _ _ _ _ _ _) c.judge_end.ensures)) c.in-Err.is)
 
 pub flow_end-requires : goal.flow_end-requires
-flow_end-requires c = end_asks c.args.state _ c.read_state-s.ensures c.args.left c.args.right c.args.customer.now c.args.house.now c.args.table.now c.args.room.now (judged_by (end_ordered _ _ _ _ _ _ _) c.judge_end.ensures) c.in_default.is
+flow_end-requires c = end_asks c.args.state _ c.read_state-s.ensures c.args.setting.now.left c.args.setting.now.right c.args.setting.now.customer.now c.args.setting.now.house.now c.args.setting.now.table.now c.args.room.now (judged_by (end_ordered _ _ _ _ _ _ _) c.judge_end.ensures) c.in_default.is
 
 pub returns : goal.returns
-returns c = promised (end_ordered _ _ _ _ _ _ _) (end_found c.args.state _ c.read_state-s.ensures c.args.left c.args.right c.args.customer.now c.args.house.now c.args.table.now c.args.room.now (judged_by (end_ordered _ _ _ _ _ _ _) c.judge_end.ensures) c.in_default.is c.new_text.ensures c.flow_end.ensures)
+returns c = promised (end_ordered _ _ _ _ _ _ _) (end_found c.args.state _ c.read_state-s.ensures c.args.setting.now.left c.args.setting.now.right c.args.setting.now.customer.now c.args.setting.now.house.now c.args.setting.now.table.now c.args.room.now (judged_by (end_ordered _ _ _ _ _ _ _) c.judge_end.ensures) c.in_default.is c.new_text.ensures c.flow_end.ensures)

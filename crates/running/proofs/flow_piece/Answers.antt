@@ -6,4 +6,4 @@ pub take_bytes-end-requires : goal.take_bytes-end-requires
 take_bytes-end-requires c = starts_ready c.args.s (search rules) c.requires.0 c.args.piece.now c.args.room.now c.requires.1 c.requires.2
 
 pub returns : goal.returns
-returns c = piece_done c.args.s c.args.left c.args.right c.args.customer.now c.args.house.now c.args.table.now c.args.piece.now c.args.room.now c.take_bytes-end.ensures c.clear_from.ensures
+returns c = piece_done c.args.s c.args.setting.now.left c.args.setting.now.right c.args.setting.now.customer.now c.args.setting.now.house.now c.args.setting.now.table.now c.args.piece.now c.args.room.now c.take_bytes-end.ensures c.clear_from.ensures
