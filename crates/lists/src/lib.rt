@@ -33,6 +33,7 @@ pub fn judge_lines(form: Form, text: &[u8]) -> Result<(), usize>
 {
     let mut above = 0;
     let mut at = 0;
+    // Where the next line begins is found by judging this one; nothing is counted.
     while at < text.len() {
         let found = good_end(form, text, at);
         let Some(end) = found else {

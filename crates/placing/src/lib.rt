@@ -248,6 +248,7 @@ fn place_length(cells: &mut [u8], taken: &mut [u8], root: u16, m: usize, text: &
 {
     let mut above = 0;
     let mut at = 0;
+    // `lines::line_end` says where the next line begins; nothing is counted.
     while at < text.len() {
         let end = lines::line_end(text, at);
         if !place_line(
