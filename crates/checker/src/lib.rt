@@ -154,30 +154,29 @@ fn is_followed(cells: &[u8], entries: &[u8], root: u16, own: &[u8], beside: Besi
     };
     let mut output: u16 = 0;
     let mut m: usize = 0;
-    let mut i = 0;
-    while i < own.len() {
-        let symbol = words::symbol_of(own[i]);
-        i += 1;
-        if symbol != 0 {
-            if beside.known < m && output != 0 {
-                return false;
-            }
-            if !is_passed_over(cells, beside, node, m, symbol) {
-                return false;
-            }
-            if node.leaf {
-                return false;
-            }
-            let Some(cell) = table::look_at(cells, node.base, symbol) else {
-                return false;
-            };
-            node = Node {
-                leaf: cell.link == 0,
-                base: cell.link,
-            };
-            output = cell.output;
-            m += 1;
+    for b in own {
+        let symbol = words::symbol_of(*b);
+        if symbol == 0 {
+            continue;
         }
+        if beside.known < m && output != 0 {
+            return false;
+        }
+        if !is_passed_over(cells, beside, node, m, symbol) {
+            return false;
+        }
+        if node.leaf {
+            return false;
+        }
+        let Some(cell) = table::look_at(cells, node.base, symbol) else {
+            return false;
+        };
+        node = Node {
+            leaf: cell.link == 0,
+            base: cell.link,
+        };
+        output = cell.output;
+        m += 1;
     }
     if !is_exact(entries, own, m, output) {
         return false;
@@ -198,6 +197,7 @@ fn is_right(text: &[u8], cells: &[u8], entries: &[u8], root: u16) -> bool
     let mut low: u8 = 0;
     let mut at = 0;
     let mut end = lines::line_end(text, 0);
+    // `lines::line_end` says where the next line begins; nothing is counted.
     while at < text.len() {
         let next = lines::line_end(text, end);
         let below = patterns::part_lines(&text[at..end], &text[end..next]);
