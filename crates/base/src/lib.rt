@@ -52,7 +52,7 @@ pub const SHORT_WORD_1980: usize = 4;
 
 pub const BUDGET_1980: usize = 20000;
 
-// The numbers of the two exception lists.
+// The numbers of the two exception lists. Numbers and no enum: `lists::judge_exceptions` takes any, and its ground tells it.
 pub const CUSTOMER_LIST: usize = 1;
 
 pub const HOUSE_LIST: usize = 2;

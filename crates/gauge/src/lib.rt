@@ -25,7 +25,7 @@ pub enum Fitting {
     Nowhere,
 }
 
-// What came out, by its number (specs/Fit.antt).
+// What came out, by its number (specs/Fit.antt): the bits of the C interface tell it.
 pub const WHOLE_OUTCOME: usize = 1;
 
 pub const BREAK_OUTCOME: usize = 2;

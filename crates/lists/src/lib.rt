@@ -10,7 +10,7 @@ ghost use Rattle.lists.specs.Lists.{good_line, judge_lines, size_grounds, bad_pa
 
 use base::Ground;
 
-// What the lines of a list are.
+// What the lines of a list are. A name and no closure for what judges a line: definitions and theorems speak of the two forms.
 #[derive(Clone, Copy)]
 pub enum Form {
     Patterns,

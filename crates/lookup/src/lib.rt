@@ -88,6 +88,7 @@ fn same_symbols(word: &[u8], line: &[u8], from: usize, at: usize) -> bool
 {
     let mut i = from;
     let mut j = at;
+    // Word and line go on at their own pace, and both begin at a place: an iterator for each would be put on by hand too.
     while j < line.len() {
         let y = words::symbol_of(line[j]);
         j += 1;
@@ -110,6 +111,7 @@ fn same_letters(word: &[u8], line: &[u8], start: usize) -> bool
 {
     let mut i = start;
     let mut j = start;
+    // The same; both places are handed on where this stops.
     while i < word.len() {
         if line.len() <= j {
             return false;
@@ -174,6 +176,7 @@ pub fn find_line(word: &[u8], text: &[u8]) -> Option<Span>
     ensures { result ≡ find word.now text.now }
 {
     let mut at = 0;
+    // `lines::line_end` says where the next line begins, and the place is part of the answer; nothing is counted.
     while at < text.len() {
         let end = lines::line_end(text, at);
         if is_line_of(word, &text[at..end]) {

@@ -23,7 +23,7 @@ pub struct Reprint {
     pub executed: usize,
 }
 
-// What came out, by its number (specs/Calls.antt).
+// What came out, by its number (specs/Calls.antt): the bits of the C interface tell it.
 pub const ANSWERED_OUTCOME: usize = 0;
 
 pub const RAN_OUT_OUTCOME: usize = 1;

@@ -69,6 +69,7 @@ fn put_outputs(cells: &mut [u8], made: &mut [u8], count: u16, root: u16, text: &
 {
     let mut entries = count;
     let mut at = 0;
+    // `lines::line_end` says where the next line begins; nothing is counted.
     while at < text.len() {
         let end = lines::line_end(text, at);
         let m = patterns::symbol_count(&text[at..end]) as u8;

@@ -13,7 +13,8 @@ use hyphenation::{Found, Setting};
 // Every line of a word fits into this many bytes (specs/Report.antt, line_limit).
 pub const LINE_LIMIT: usize = 2 * base::WORD_LIMIT + 2;
 
-// What came of a word: where its line ends, what it adds to the program's sum, and whether it was refused.
+// What came of a word: where its line ends, what it adds to the program's sum, and whether it was refused. A refused word adds nothing, and
+// both are summed: an Option would be taken apart for 0 and 1.
 #[derive(Clone, Copy)]
 pub struct Line {
     pub end: usize,

@@ -1,7 +1,8 @@
 // When a table is right for a list, as document 01 says it and as the checker computes it: what the checker keeps on its way.
 #![tactic(auto)]
 
-// Where a path ends: its base, and whether it is a leaf, from which nothing goes on.
+// Where a path ends: its base, and whether it is a leaf, from which nothing goes on. A leaf has a base too, so that an Option of it would
+// have definitions and proofs ask twice (specs/Test.antt, linked).
 #[derive(Clone, Copy)]
 pub struct Node {
     pub leaf: bool,

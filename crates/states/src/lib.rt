@@ -8,7 +8,8 @@ ghost use Rattle.runs.specs.Reached.{is_word, can_be_held, is_reached};
 ghost use Rattle.states.specs.Bytes.{head_size, state_size, total_of, of_bytes, state_bytes};
 ghost use Rattle.states.specs.State.{state_of, all_zero, is_gone, are_left, is_left, Reads};
 
-// How a run stands between two calls (specs/State.antt, run_of).
+// How a run stands between two calls (specs/State.antt, run_of). Numbers and no enum, since C keeps the state as bytes and any byte may
+// stand there: `of_bytes` says what each comes to, and `is_left` which are none.
 pub const HOLDING: u8 = 0;
 
 pub const GONE: u8 = 1;
@@ -20,7 +21,8 @@ pub const HEAD_SIZE: usize = 8;
 
 pub const STATE_SIZE: usize = HEAD_SIZE + base::HELD_LIMIT;
 
-// The bytes held, how many they are, the run, and how many bytes the text has so far. Bytes behind those held are 0.
+// The bytes held, how many they are, the run, and how many bytes the text has so far. Bytes behind those held are 0. So they stand in C's
+// 72 bytes (`state_bytes`), the number beside its buffer.
 #[derive(Clone, Copy)]
 pub struct TextState {
     pub held: [u8; base::HELD_LIMIT],

@@ -106,6 +106,7 @@ fn walk_row(
         let mut base = root;
         let mut m: usize = 0;
         let mut end = place;
+        // The walk has four ends, and none of them is a number of turns.
         let walked = 'walk: loop {
             let symbol = row[end];
             let Some(Cell { link, output }) = table::look_at(cells, base, symbol) else {
