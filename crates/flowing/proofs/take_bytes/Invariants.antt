@@ -4,4 +4,3 @@ use Rattle.flowing.proofs.take_bytes.Given as goal
 
 abbrev pub invariant-loop-b : goal.invariant-loop-b
 invariant-loop-b l = Taking l.setting.left l.setting.right l.setting.customer.now l.setting.house.now l.setting.table.now l.piece l.initial.next l.initial.held l.initial.room l.b-index l.next l.held l.room
-

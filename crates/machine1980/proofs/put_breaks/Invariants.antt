@@ -10,4 +10,3 @@ use Rattle.machine1980.proofs.put_breaks.Given as goal
 
 abbrev pub invariant-loop-gap : goal.invariant-loop-gap
 invariant-loop-gap l = (2 ≤ l.gap) × (l.gap ≤ room_size1980) × (length l.room ≡ length l.initial.room) × (room_size1980 ≤ length l.initial.room) × (l.room ≡ written room_size1980 (marks.sheet room_size1980 (below room_size1980 (is_break l.n l.finale l.sheet) l.gap)) l.initial.room)
-

@@ -9,4 +9,3 @@ use Rattle.packer.proofs.used_cells.Given as goal
 
 abbrev pub invariant-loop-n : goal.invariant-loop-n
 invariant-loop-n l = (1 ≤ l.used) × (l.used ≤ cell_limit) × (length l.cells ≡ cell_room) × (used_from l.cells 0 cell_limit 1 ≡ used_from (drop (cell_size * l.n) l.cells) l.n (cell_limit - l.n) l.used)
-

@@ -7,4 +7,3 @@ use Rattle.words.proofs.judge_letters.Given as goal
 
 abbrev pub invariant-loop-i : goal.invariant-loop-i
 invariant-loop-i l = judge_letters l.limit l.word ≡ all_fit letters_alone l.i false (drop l.i l.word)
-

@@ -6,4 +6,3 @@ use Rattle.words.proofs.judge_word.Given as goal
 
 abbrev pub invariant-loop-i : goal.invariant-loop-i
 invariant-loop-i l = judge_word l.limit l.word ≡ all_fit with_apostrophes l.i (letter_before l.word l.i) (drop l.i l.word)
-
