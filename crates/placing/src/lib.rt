@@ -34,8 +34,7 @@ fn is_usable(cells: &[u8], base: u16, symbol: u8, mark: u8) -> bool
 }
 
 // Are all cells free that the marked symbols need at a base?
-fn are_usable(cells: &[u8], mask: &[u8], base: u16) -> bool
-    requires { symbol_limit < length mask.now }
+fn are_usable(cells: &[u8], mask: &[u8; patterns::MASK_SIZE], base: u16) -> bool
     ensures { result ≡ all_from (λ s. not (marked mask.now s) || is_free cells.now (base + s)) 1 symbol_limit }
 {
     for symbol in 1..=base::SYMBOL_LIMIT {
@@ -47,8 +46,7 @@ fn are_usable(cells: &[u8], mask: &[u8], base: u16) -> bool
 }
 
 // A symbol to try before the others: the first that is marked.
-fn first_marked(mask: &[u8]) -> u8
-    requires { symbol_limit < length mask.now }
+fn first_marked(mask: &[u8; patterns::MASK_SIZE]) -> u8
     ensures { (1 ≤ result) × (result ≤ symbol_limit) }
 {
     for symbol in 1..base::SYMBOL_LIMIT {
@@ -60,8 +58,14 @@ fn first_marked(mask: &[u8]) -> u8
 }
 
 // Does a base serve: no path has it, and the cells it needs are free? One symbol's cell is tried first, which decides most bases.
-fn is_serving(cells: &[u8], taken: &[u8], mask: &[u8], base: u16, first: u8) -> bool
-    requires { (symbol_limit < length mask.now) × (base < length taken.now) × (1 ≤ first) × (first ≤ symbol_limit) }
+fn is_serving(
+    cells: &[u8],
+    taken: &[u8],
+    mask: &[u8; patterns::MASK_SIZE],
+    base: u16,
+    first: u8,
+) -> bool
+    requires { (base < length taken.now) × (1 ≤ first) × (first ≤ symbol_limit) }
     ensures { result ≡ serves cells.now taken.now (marked mask.now) base }
 {
     if taken[base as usize] != 0 {
@@ -74,8 +78,8 @@ fn is_serving(cells: &[u8], taken: &[u8], mask: &[u8], base: u16, first: u8) -> 
 }
 
 // The smallest base from 1 up that serves, or the limit of cells.
-fn find_base(cells: &[u8], taken: &[u8], mask: &[u8]) -> u16
-    requires { (symbol_limit < length mask.now) × (length taken.now ≡ cell_limit) }
+fn find_base(cells: &[u8], taken: &[u8], mask: &[u8; patterns::MASK_SIZE]) -> u16
+    requires { length taken.now ≡ cell_limit }
     ensures { result ≡ smallest (serves cells.now taken.now (marked mask.now)) 1 (cell_limit - 1) }
 {
     let first = first_marked(mask);
@@ -98,8 +102,7 @@ fn is_below(base: u16, symbol: u8, mark: u8) -> bool
 }
 
 // Are all cells that the marked symbols need at a base below the limit?
-fn is_inside(mask: &[u8], base: u16) -> bool
-    requires { symbol_limit < length mask.now }
+fn is_inside(mask: &[u8; patterns::MASK_SIZE], base: u16) -> bool
     ensures { result ≡ inside (marked mask.now) base }
 {
     for symbol in 1..=base::SYMBOL_LIMIT {
@@ -123,8 +126,8 @@ fn put_cell(cells: &mut [u8], n: usize, symbol: u8)
 }
 
 // The cells of the marked symbols at a base.
-fn put_cells(cells: &mut [u8], mask: &[u8], base: u16)
-    requires { (length cells.old ≡ cell_room) × (symbol_limit < length mask.now) }
+fn put_cells(cells: &mut [u8], mask: &[u8; patterns::MASK_SIZE], base: u16)
+    requires { length cells.old ≡ cell_room }
     ensures { cells.new ≡ put_cells (marked mask.now) base 1 symbol_limit cells.old }
 {
     for symbol in 1..=base::SYMBOL_LIMIT {
@@ -163,8 +166,14 @@ fn put_link(cells: &mut [u8], root: u16, own: &[u8], m: usize, base: u16)
 }
 
 // The base that a path of m symbols gets: the root's is given.
-fn base_for(root: u16, m: usize, cells: &[u8], taken: &[u8], mask: &[u8]) -> u16
-    requires { (symbol_limit < length mask.now) × (length taken.now ≡ cell_limit) }
+fn base_for(
+    root: u16,
+    m: usize,
+    cells: &[u8],
+    taken: &[u8],
+    mask: &[u8; patterns::MASK_SIZE],
+) -> u16
+    requires { length taken.now ≡ cell_limit }
     ensures { result ≡ base_for root m cells.now taken.now (marked mask.now) }
 {
     if m == 0 {

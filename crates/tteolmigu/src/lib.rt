@@ -49,21 +49,11 @@ fn found_bits(marks: usize, looks: usize) -> u64
     high * 4294967296 + low
 }
 
-// How many bytes lie between two offsets.
-fn length_of(start: usize, end: usize) -> usize
-    ensures { result ≡ end - start }
-{
-    if end < start {
-        return 0;
-    }
-    end - start
-}
-
 // The bits of a line that the lookup found.
 fn line_bits(list: usize, start: usize, end: usize) -> u64
     ensures { result ≡ line_bits list start end }
 {
-    let size = length_of(start, end) as u64 % 65536;
+    let size = end.saturating_sub(start) as u64 % 65536;
     let which = list as u64 % 256;
     let offset = start as u64 % 4294967296;
     which * 281474976710656 + offset * 65536 + size

@@ -1,8 +1,7 @@
 -- `symbol` is one of the symbols.
 use Rattle.base.specs.Limits.{symbol_limit}
-use lib.ListN.{length}
-use Prim.Native.Nat.{◌≤◌, ◌<◌}
+use Prim.Native.Nat.{◌≤◌}
 use Rattle.placing.proofs.first_marked.Given as goal
 
 abbrev pub invariant-loop-symbol : goal.invariant-loop-symbol
-invariant-loop-symbol l = (1 ≤ l.symbol) × (l.symbol ≤ symbol_limit) × (symbol_limit < length l.mask)
+invariant-loop-symbol l = (1 ≤ l.symbol) × (l.symbol ≤ symbol_limit)

@@ -8,13 +8,13 @@ use Rattle.placing.proofs.Laws.{inside_start}
 use Rattle.placing.proofs.is_inside.Goals as goal
 
 pub loop-symbol-init : goal.loop-symbol-init
-loop-symbol-init c = (search rules, search rules, inside_start _ _)
+loop-symbol-init c = (search rules, inside_start _ _)
 
 pub returns-then-not-is_below : goal.returns-then-not-is_below
-returns-then-not-is_below c = sym (c.loop-symbol.invariant.2 ∙ all_fail _ _ (suc symbol_limit) (omega arith) (sym c.is_below.ensures ∙ c.if-not-is_below.true))
+returns-then-not-is_below c = sym (c.loop-symbol.invariant.1 ∙ all_fail _ _ (suc symbol_limit) (omega arith) (sym c.is_below.ensures ∙ c.if-not-is_below.true))
 
 pub loop-symbol-preserved : goal.loop-symbol-preserved
-loop-symbol-preserved c = (search rules, search rules, c.loop-symbol.invariant.2 ∙ all_pass _ _ (suc symbol_limit) (omega arith) (sym c.is_below.ensures ∙ c.if-not-is_below.false))
+loop-symbol-preserved c = (search rules, c.loop-symbol.invariant.1 ∙ all_pass _ _ (suc symbol_limit) (omega arith) (sym c.is_below.ensures ∙ c.if-not-is_below.false))
 
 pub returns : goal.returns
-returns c = sym (c.loop-symbol.invariant.2 ∙ all_end _ _ (suc symbol_limit) (omega arith))
+returns c = sym (c.loop-symbol.invariant.1 ∙ all_end _ _ (suc symbol_limit) (omega arith))

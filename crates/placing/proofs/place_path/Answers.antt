@@ -1,17 +1,16 @@
-use borrow.Author.Rules.{rules}
 use mathlib.Core.Path.{◌∙◌}
 use Rattle.words.specs.Symbols.{symbols_of}
 use Rattle.placing.proofs.Laws.{path_full, path_fits}
 use Rattle.placing.proofs.place_path.Goals as goal
 
 pub base_for-base-requires : goal.base_for-base-requires
-base_for-base-requires c = (search rules, c.requires.0.of_bases)
+base_for-base-requires c = c.requires.0.of_bases
 
 pub returns-then-not-is_inside : goal.returns-then-not-is_inside
 returns-then-not-is_inside c = path_full _ _ (symbols_of c.args.own.now) _ c.args.cells.now c.args.taken.now c.mark_next.ensures c.base_for-base.ensures c.is_inside.ensures c.if-not-is_inside.true
 
 pub put_cells-requires : goal.put_cells-requires
-put_cells-requires c = (c.requires.0.of_cells, search rules)
+put_cells-requires c = c.requires.0.of_cells
 
 pub put_link-requires : goal.put_link-requires
 put_link-requires c = c.requires.1

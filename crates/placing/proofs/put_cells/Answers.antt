@@ -10,11 +10,8 @@ use Rattle.placing.proofs.put_cells.Goals as goal
 pub loop-symbol-init : goal.loop-symbol-init
 loop-symbol-init c = (search rules, refl, refl)
 
-pub bounds-mask-symbol : goal.bounds-mask-symbol
-bounds-mask-symbol c = omega (arith, c.requires.1, c.loop-symbol-test.true)
-
 pub put_cell-requires : goal.put_cell-requires
-put_cell-requires c = (c.loop-symbol.invariant.1 ∙ c.requires.0, search rules)
+put_cell-requires c = (c.loop-symbol.invariant.1 ∙ c.requires, search rules)
 
 pub loop-symbol-preserved-then-mask-symbol-ne1 : goal.loop-symbol-preserved-then-mask-symbol-ne1
 loop-symbol-preserved-then-mask-symbol-ne1 c = (search rules, c.loop-symbol.invariant.1, c.loop-symbol.invariant.2 ∙ cells_other _ _ _ (suc symbol_limit) _ (omega arith) (ne_eqb _ _ c.if-mask-symbol-ne1.true))
