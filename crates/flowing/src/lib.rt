@@ -11,6 +11,7 @@ ghost use Rattle.flowing.specs.Output.{broken, word_looks, finished_text, finish
 ghost use Rattle.flowing.specs.Post.{Shows, Holds, Goes, Finishes, Ready, Steps, Flows};
 
 use hyphenation::{Found, Setting};
+use words::Word;
 
 // How far a piece has come: bytes that are held, the run, where the output goes on, and the looks so far.
 #[derive(Clone, Copy)]
@@ -29,14 +30,14 @@ pub struct Shown {
 }
 
 // A judged word with its breaks.
-fn put_word(setting: &Setting, word: &[u8], room: &mut [u8], at: usize) -> Shown
-    requires { (judge_word word_limit word.now ≡ Ok tt) × (at + room_per_byte * length word.now ≤ length room.old) }
-    ensures { Shows (broken setting.now.left setting.now.right setting.now.customer.now setting.now.house.now setting.now.table.now word.now) (word_looks setting.now.customer.now setting.now.house.now setting.now.table.now word.now) at room.old result room.new }
+fn put_word(setting: &Setting, word: &Word, room: &mut [u8], at: usize) -> Shown
+    requires { at + room_per_byte * length word.now.bytes.now ≤ length room.old }
+    ensures { Shows (broken setting.now.left setting.now.right setting.now.customer.now setting.now.house.now setting.now.table.now word.now.bytes.now) (word_looks setting.now.customer.now setting.now.house.now setting.now.table.now word.now.bytes.now) at room.old result room.new }
 {
     let mut marks = [0u8; base::ROOM_SIZE];
-    match hyphenation::hyphenate_word(setting, word, &mut marks) {
+    match hyphenation::hyphenate_word(setting, word.bytes, &mut marks) {
         Ok(Found { looks, .. }) => Shown {
-            end: writing::put_hyphenated(b"\\-", &marks, word, room, at),
+            end: writing::put_hyphenated(b"\\-", &marks, word.bytes, room, at),
             looks,
         },
         // No word that was judged is refused.
@@ -54,9 +55,16 @@ pub fn put_held(setting: &Setting, held: &[u8], room: &mut [u8], at: usize) -> S
     }
     let last = held.len() - 1;
     if held[last] != words::APOSTROPHE {
-        return put_word(setting, held, room, at);
+        return put_word(setting, &Word { bytes: held }, room, at);
     }
-    let shown = put_word(setting, &held[0..last], room, at);
+    let shown = put_word(
+        setting,
+        &Word {
+            bytes: &held[0..last],
+        },
+        room,
+        at,
+    );
     Shown {
         end: writing::put_byte(words::APOSTROPHE, room, shown.end),
         looks: shown.looks,

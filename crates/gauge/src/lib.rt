@@ -9,6 +9,7 @@ ghost use Rattle.gauge.specs.Widths.{bad_width, any_bad, letter_width, fits_in};
 ghost use Rattle.gauge.specs.Fit.{given, fit_values, fit_grounds, fit_said, fit_answer};
 
 use base::Ground;
+use words::Word;
 
 // The widths of a hyphen and of a line, in millimetres. The letters' widths stand beside it.
 #[derive(Clone, Copy)]
@@ -120,20 +121,20 @@ fn last_break(mark: u8, fits: bool, i: usize, before: usize) -> usize
 }
 
 // What is found of a judged word in a judged room.
-fn find_fit(gauge: Gauge, widths: &[f64], word: &[u8], room: &[u8]) -> Fitting
-    requires { (length widths.now ≡ width_count) × (judge_word word_limit word.now ≡ Ok tt) × (room_size ≤ length room.now) }
-    ensures { fit_said (Ok result) ≡ Finds (fit_values gauge widths.now word.now room.now) }
+fn find_fit(gauge: Gauge, widths: &[f64], word: &Word, room: &[u8]) -> Fitting
+    requires { (length widths.now ≡ width_count) × (room_size ≤ length room.now) }
+    ensures { fit_said (Ok result) ≡ Finds (fit_values gauge widths.now word.now.bytes.now room.now) }
 {
     let hyphen = gauge.hyphen;
     let line = gauge.line;
-    let last = word.len() - 1;
+    let last = word.bytes.len() - 1;
     let mut width = ZERO_WIDTH;
     let mut found: usize = 0;
     for i in 0..last {
-        width = width + letter_width(widths, word[i]);
+        width = width + letter_width(widths, word.bytes[i]);
         found = last_break(room[i + 1], fits_in(line, width + hyphen), i + 1, found);
     }
-    if fits_in(line, width + letter_width(widths, word[last])) {
+    if fits_in(line, width + letter_width(widths, word.bytes[last])) {
         return Fitting::Whole;
     }
     if found == 0 {
@@ -152,5 +153,5 @@ pub fn fit_word(
     ensures { fit_said result ≡ fit_answer gauge widths.now word.now room.now }
 {
     judge_fit(gauge, widths, word, room.len())?;
-    Ok(find_fit(gauge, &widths[..], word, room))
+    Ok(find_fit(gauge, &widths[..], &Word { bytes: word }, room))
 }

@@ -15,6 +15,7 @@ ghost use Rattle.hyphenation.specs.Calls.{room_grounds, margin_grounds, levels_g
 
 use base::Ground;
 use lookup::Located;
+use words::Word;
 
 // What a call found: how many bytes of the room it set, and the count of looks.
 #[derive(Clone, Copy)]
@@ -146,11 +147,11 @@ fn find_levels(
     cells: &[u8],
     entries: &[u8],
     root: u16,
-    word: &[u8],
+    word: &Word,
     room: &mut [u8],
 ) -> Result<Found, Ground>
-    requires { (judge_word word_limit word.now ≡ Ok tt) × (room_size ≤ length room.old) }
-    ensures { LevelsFound cells.now entries.now root word.now room.old result room.new }
+    requires { room_size ≤ length room.old }
+    ensures { LevelsFound cells.now entries.now root word.now.bytes.now room.old result room.new }
 {
     let mut levels = [0u8; base::ROOM_SIZE];
     let looks = walk::walk_word(cells, entries, root, word, &mut levels);
@@ -175,22 +176,22 @@ fn put_level_breaks(
     cells: &[u8],
     entries: &[u8],
     root: u16,
-    word: &[u8],
+    word: &Word,
     room: &mut [u8],
 ) -> usize
-    requires { (judge_word word_limit word.now ≡ Ok tt) × (room_size ≤ length room.old) }
-    ensures { Done (odd_sheet left right cells.now entries.now root word.now) (word_looks cells.now root word.now) room.old result room.new }
+    requires { room_size ≤ length room.old }
+    ensures { Done (odd_sheet left right cells.now entries.now root word.now.bytes.now) (word_looks cells.now root word.now.bytes.now) room.old result room.new }
 {
     let mut levels = [0u8; base::ROOM_SIZE];
     let looks = walk::walk_word(cells, entries, root, word, &mut levels);
-    put_breaks(left, right, word.len(), &levels, room);
+    put_breaks(left, right, word.bytes.len(), &levels, room);
     looks
 }
 
 // The breaks of a judged word in a judged room.
-fn find_breaks(setting: &Setting, word: &[u8], room: &mut [u8]) -> Result<Found, Ground>
-    requires { (judge_word word_limit word.now ≡ Ok tt) × (room_size ≤ length room.old) }
-    ensures { BreaksFound setting.now.left setting.now.right word.now setting.now.customer.now setting.now.house.now (cells_of setting.now.table.now) (entries_of setting.now.table.now) root_base room.old result room.new }
+fn find_breaks(setting: &Setting, word: &Word, room: &mut [u8]) -> Result<Found, Ground>
+    requires { room_size ≤ length room.old }
+    ensures { BreaksFound setting.now.left setting.now.right word.now.bytes.now setting.now.customer.now setting.now.house.now (cells_of setting.now.table.now) (entries_of setting.now.table.now) root_base room.old result room.new }
 {
     let Setting {
         left,
@@ -199,13 +200,13 @@ fn find_breaks(setting: &Setting, word: &[u8], room: &mut [u8]) -> Result<Found,
         house,
         table,
     } = *setting;
-    let looks = match lookup::find_either(word, customer, house) {
+    let looks = match lookup::find_either(word.bytes, customer, house) {
         Located::Customer { start, end } => {
-            put_line_breaks(left, right, word.len(), &customer[start..end], room);
+            put_line_breaks(left, right, word.bytes.len(), &customer[start..end], room);
             0 // a customer's line takes no look
         }
         Located::House { start, end } => {
-            put_line_breaks(left, right, word.len(), &house[start..end], room);
+            put_line_breaks(left, right, word.bytes.len(), &house[start..end], room);
             0 // nor does the house's
         }
         Located::Nowhere => {
@@ -225,7 +226,13 @@ pub fn levels(word: &[u8], table: &[u8], room: &mut [u8]) -> Result<Found, Groun
     judge_levels(word, table, room.len())?;
     let cells = table::cells_of(table);
     let entries = table::entries_of(table);
-    find_levels(cells, entries, table::ROOT_BASE, word, room)
+    find_levels(
+        cells,
+        entries,
+        table::ROOT_BASE,
+        &Word { bytes: word },
+        room,
+    )
 }
 
 // The hyphenating call.
@@ -233,7 +240,7 @@ pub fn hyphenate(setting: &Setting, word: &[u8], room: &mut [u8]) -> Result<Foun
     ensures { Breaks setting.now.left setting.now.right word.now setting.now.customer.now setting.now.house.now setting.now.table.now room.old result room.new }
 {
     judge_hyphenate(setting, word, room.len())?;
-    find_breaks(setting, word, room)
+    find_breaks(setting, &Word { bytes: word }, room)
 }
 
 // The hyphenating call for a word, where margins, lists and table were judged before: whoever has many words judges these once.
@@ -242,5 +249,5 @@ pub fn hyphenate_word(setting: &Setting, word: &[u8], room: &mut [u8]) -> Result
     ensures { WordBreaks setting.now.left setting.now.right word.now setting.now.customer.now setting.now.house.now setting.now.table.now room.old result room.new }
 {
     judge_word_alone(word, room.len())?;
-    find_breaks(setting, word, room)
+    find_breaks(setting, &Word { bytes: word }, room)
 }

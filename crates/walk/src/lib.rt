@@ -10,6 +10,7 @@ ghost use Rattle.walk.specs.Raise.{raise, raise_all};
 ghost use Rattle.walk.specs.Post.{Walked};
 
 use table::{Cell, Entry};
+use words::Word;
 
 // The higher of two levels.
 fn higher(a: u8, b: u8) -> u8
@@ -132,15 +133,15 @@ fn walk_row(
 }
 
 // The row of a judged word: its symbols between two edges.
-fn fill_row(word: &[u8], row: &mut [u8])
-    requires { (judge_word word_limit word.now ≡ Ok tt) × (length word.now + 2 ≤ length row.old) }
-    ensures { take (length word.now + 2) row.new ≡ row_of word.now }
+fn fill_row(word: &Word, row: &mut [u8])
+    requires { length word.now.bytes.now + 2 ≤ length row.old }
+    ensures { take (length word.now.bytes.now + 2) row.new ≡ row_of word.now.bytes.now }
 {
     row[0] = base::EDGE;
-    for (i, b) in word.iter().enumerate() {
+    for (i, b) in word.bytes.iter().enumerate() {
         row[i + 1] = words::word_symbol(*b);
     }
-    row[word.len() + 1] = base::EDGE;
+    row[word.bytes.len() + 1] = base::EDGE;
 }
 
 // The walks over a judged word, from the root base: its levels, whatever the room held, and the count of looks. They are raised in an
@@ -149,15 +150,14 @@ pub fn walk_word(
     cells: &[u8],
     entries: &[u8],
     root: u16,
-    word: &[u8],
+    word: &Word,
     room: &mut [u8; base::ROOM_SIZE],
 ) -> usize
-    requires { judge_word word_limit word.now ≡ Ok tt }
-    ensures { Walked cells.now entries.now root (length word.now) (row_of word.now) (replicate room_size 0) result room.new }
+    ensures { Walked cells.now entries.now root (length word.now.bytes.now) (row_of word.now.bytes.now) (replicate room_size 0) result room.new }
 {
     let mut row = [0u8; base::ROW_LIMIT];
     fill_row(word, &mut row);
-    let n = word.len();
+    let n = word.bytes.len();
     let end = n + 2;
     let mut levels = [0u8; base::ROOM_SIZE];
     let looks = walk_row(cells, &entries, root, &row[..end], n, &mut levels);

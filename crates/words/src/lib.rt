@@ -1,12 +1,21 @@
 // Letters, symbols and the judgement of a word.
 #![tactic(auto)]
 
-ghost use Rattle.std.specs.Prelude.{◌≡◌, true, [], ◌+◌, ◌<◌, length, get_or, drop};
+ghost use Rattle.std.specs.Prelude.{◌≡◌, true, Ok, [], ◌+◌, ◌<◌, length, get_or, drop};
 ghost use Rattle.base.specs.Grounds.{Finds, says, first_of};
 ghost use Rattle.words.specs.Symbols.{small, capital, letter, lower, digit, symbol_of};
-ghost use Rattle.words.specs.Words.{is_between, letter_before, word_grounds, letter_grounds, judge_length, word_byte};
+ghost use Rattle.base.specs.Limits.{word_limit};
+ghost use Rattle.words.specs.Words.{judge_word, is_between, letter_before, word_grounds, letter_grounds, judge_length, word_byte};
 
 use base::Ground;
+
+// A word that was judged: of at most 63 letters, with apostrophes between them. Whoever makes one has judged it.
+#[derive(Clone, Copy)]
+pub struct Word<'a> {
+    pub bytes: &'a [u8],
+
+    pub ghost judged: { judge_word word_limit bytes.now ≡ Ok tt },
+}
 
 // The bytes that the texts name (specs/Symbols.antt: line_feed, hyphen, dot, apostrophe).
 pub const LINE_FEED: u8 = 10;

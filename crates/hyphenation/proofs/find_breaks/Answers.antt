@@ -29,8 +29,8 @@ slice_bounds-put_line_breaks-end-in-House c = (house_within _ _ _ (sym c.find_ei
 
 -- The three ways to the breaks meet here: each leaves the sheet in the room and its count of looks.
 ended : (c : goal.After-count_marks-marks)
-    → Done (break_sheet c.args.setting.now.left c.args.setting.now.right c.args.setting.now.customer.now c.args.setting.now.house.now (cells_of c.args.setting.now.table.now) (entries_of c.args.setting.now.table.now) root_base c.args.word.now)
-    (break_looks c.args.setting.now.customer.now c.args.setting.now.house.now (cells_of c.args.setting.now.table.now) root_base c.args.word.now) c.args.room.now c.match-find_either.looks c.match-find_either.room
+    → Done (break_sheet c.args.setting.now.left c.args.setting.now.right c.args.setting.now.customer.now c.args.setting.now.house.now (cells_of c.args.setting.now.table.now) (entries_of c.args.setting.now.table.now) root_base c.args.word.now.bytes.now)
+    (break_looks c.args.setting.now.customer.now c.args.setting.now.house.now (cells_of c.args.setting.now.table.now) root_base c.args.word.now.bytes.now) c.args.room.now c.match-find_either.looks c.match-find_either.room
 ended c =
     elim c.match-find_either.branch [
       | in-Customer w ↦ done_as w.room-is w.looks-is (by_customer _ _ _ _ _ _ _ _ _ c.find_either.ensures w.in-Customer.is w.put_line_breaks.ensures)
@@ -39,7 +39,7 @@ ended c =
     ]
 
 pub count_marks-marks-requires : goal.count_marks-marks-requires
-count_marks-marks-requires c = omega (arith, c.requires.1)
+count_marks-marks-requires c = omega (arith, c.requires)
 
 pub returns : goal.returns
 returns c = breaks_counted _ _ _ _ _ _ _ _ _ (ended c) c.count_marks-marks.ensures

@@ -6,8 +6,11 @@ use Rattle.hyphenation.proofs.hyphenate.Goals as goal
 pub returns-in_err-judge_hyphenate : goal.returns-in_err-judge_hyphenate
 returns-in_err-judge_hyphenate c = promised (hyphenate_ordered _ _ _ _ _ _ _) (refused _ _ _ (judged_by (hyphenate_ordered _ _ _ _ _ _ _) c.judge_hyphenate.ensures) c.in_err-judge_hyphenate.was (handed_on _ c.from_residual.ensures.1))
 
+pub invariant_of-find_breaks : goal.invariant_of-find_breaks
+invariant_of-find_breaks c = record { judged = (breaks_sizes _ _ _ _ _ _ _ (judged_by (hyphenate_ordered _ _ _ _ _ _ _) c.judge_hyphenate.ensures) c.in_ok-judge_hyphenate.was).0 }
+
 pub find_breaks-requires : goal.find_breaks-requires
-find_breaks-requires c = breaks_sizes _ _ _ _ _ _ _ (judged_by (hyphenate_ordered _ _ _ _ _ _ _) c.judge_hyphenate.ensures) c.in_ok-judge_hyphenate.was
+find_breaks-requires c = (breaks_sizes _ _ _ _ _ _ _ (judged_by (hyphenate_ordered _ _ _ _ _ _ _) c.judge_hyphenate.ensures) c.in_ok-judge_hyphenate.was).1
 
 pub returns : goal.returns
 returns c = promised (hyphenate_ordered _ _ _ _ _ _ _) (breaks_found _ _ _ _ _ _ _ (judged_by (hyphenate_ordered _ _ _ _ _ _ _) c.judge_hyphenate.ensures) c.in_ok-judge_hyphenate.was c.find_breaks.ensures)

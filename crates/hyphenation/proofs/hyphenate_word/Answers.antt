@@ -6,8 +6,11 @@ use Rattle.hyphenation.proofs.hyphenate_word.Goals as goal
 pub returns-in_err-judge_word_alone : goal.returns-in_err-judge_word_alone
 returns-in_err-judge_word_alone c = promised (word_alone_ordered _ _) (refused _ _ _ (judged_by (word_alone_ordered _ _) c.judge_word_alone.ensures) c.in_err-judge_word_alone.was (handed_on _ c.from_residual.ensures.1))
 
+pub invariant_of-find_breaks : goal.invariant_of-find_breaks
+invariant_of-find_breaks c = record { judged = (word_alone_sizes _ _ (judged_by (word_alone_ordered _ _) c.judge_word_alone.ensures) c.in_ok-judge_word_alone.was).0 }
+
 pub find_breaks-requires : goal.find_breaks-requires
-find_breaks-requires c = word_alone_sizes _ _ (judged_by (word_alone_ordered _ _) c.judge_word_alone.ensures) c.in_ok-judge_word_alone.was
+find_breaks-requires c = (word_alone_sizes _ _ (judged_by (word_alone_ordered _ _) c.judge_word_alone.ensures) c.in_ok-judge_word_alone.was).1
 
 pub returns : goal.returns
 returns c = promised (word_alone_ordered _ _) (breaks_found _ _ _ _ _ _ _ (judged_by (word_alone_ordered _ _) c.judge_word_alone.ensures) c.in_ok-judge_word_alone.was c.find_breaks.ensures)

@@ -6,8 +6,11 @@ use Rattle.hyphenation.proofs.levels.Goals as goal
 pub returns-in_err-judge_levels : goal.returns-in_err-judge_levels
 returns-in_err-judge_levels c = promised (levels_ordered _ _ _) (refused _ _ _ (judged_by (levels_ordered _ _ _) c.judge_levels.ensures) c.in_err-judge_levels.was (handed_on _ c.from_residual.ensures.1))
 
+pub invariant_of-find_levels : goal.invariant_of-find_levels
+invariant_of-find_levels c = record { judged = (levels_sizes _ _ _ (judged_by (levels_ordered _ _ _) c.judge_levels.ensures) c.in_ok-judge_levels.was).0 }
+
 pub find_levels-requires : goal.find_levels-requires
-find_levels-requires c = levels_sizes _ _ _ (judged_by (levels_ordered _ _ _) c.judge_levels.ensures) c.in_ok-judge_levels.was
+find_levels-requires c = (levels_sizes _ _ _ (judged_by (levels_ordered _ _ _) c.judge_levels.ensures) c.in_ok-judge_levels.was).1
 
 pub returns : goal.returns
 returns c = promised (levels_ordered _ _ _) (levels_found _ _ _ (judged_by (levels_ordered _ _ _) c.judge_levels.ensures) c.in_ok-judge_levels.was c.cells_of-cells.ensures.bytes c.entries_of-entries.ensures.bytes c.find_levels.ensures)

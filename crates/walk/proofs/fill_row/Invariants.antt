@@ -8,4 +8,4 @@ use Rattle.words.specs.Words.{word_symbols}
 use Rattle.walk.proofs.fill_row.Given as goal
 
 abbrev pub invariant-loop-i : goal.invariant-loop-i
-invariant-loop-i l = (length l.row ≡ length l.initial.row) × (length l.word + 2 ≤ length l.initial.row) × (take (l.i + 1) l.row ≡ edge ∷ word_symbols (take l.i l.word))
+invariant-loop-i l = (length l.row ≡ length l.initial.row) × (length l.word.bytes.now + 2 ≤ length l.initial.row) × (take (l.i + 1) l.row ≡ edge ∷ word_symbols (take l.i l.word.bytes.now))
