@@ -77,47 +77,49 @@ pub enum Ground {
     RunningLong,
 }
 
-// The number by which the customer knows a ground.
-pub fn number_of(ground: Ground) -> usize
-    ensures { result ≡ (told ground).number }
-{
-    match ground {
-        Ground::Margin => 1,
-        Ground::WordEmpty => 2,
-        Ground::NotLetter(_) => 3,
-        Ground::WordLong => 4,
-        Ground::RoomShort => 5,
-        Ground::BadException { .. } => 6,
-        Ground::BadPattern(_) => 7,
-        Ground::TextLong => 8,
-        Ground::TableForm => 9,
-        Ground::PackRoomShort => 10,
-        Ground::NoFit => 11,
-        Ground::NotRight => 12,
-        Ground::BadWidth => 13,
-        Ground::TextRoomShort => 14,
-        Ground::RunningLong => 21,
+impl Ground {
+    // The number by which the customer knows a ground.
+    pub fn number(self) -> usize
+        ensures { result ≡ (told self).number }
+    {
+        match self {
+            Ground::Margin => 1,
+            Ground::WordEmpty => 2,
+            Ground::NotLetter(_) => 3,
+            Ground::WordLong => 4,
+            Ground::RoomShort => 5,
+            Ground::BadException { .. } => 6,
+            Ground::BadPattern(_) => 7,
+            Ground::TextLong => 8,
+            Ground::TableForm => 9,
+            Ground::PackRoomShort => 10,
+            Ground::NoFit => 11,
+            Ground::NotRight => 12,
+            Ground::BadWidth => 13,
+            Ground::TextRoomShort => 14,
+            Ground::RunningLong => 21,
+        }
     }
-}
 
-// The list that a ground names, 0 where it names none.
-pub fn list_of(ground: Ground) -> usize
-    ensures { result ≡ (told ground).list }
-{
-    match ground {
-        Ground::BadException { list, .. } => list,
-        _ => 0,
+    // The list that it names, 0 where it names none.
+    pub fn list(self) -> usize
+        ensures { result ≡ (told self).list }
+    {
+        match self {
+            Ground::BadException { list, .. } => list,
+            _ => 0,
+        }
     }
-}
 
-// The place that a ground tells, 0 where it tells none.
-pub fn place_of(ground: Ground) -> usize
-    ensures { result ≡ (told ground).place }
-{
-    match ground {
-        Ground::NotLetter(at) => at,
-        Ground::BadException { offset, .. } => offset,
-        Ground::BadPattern(offset) => offset,
-        _ => 0,
+    // The place that it tells, 0 where it tells none.
+    pub fn place(self) -> usize
+        ensures { result ≡ (told self).place }
+    {
+        match self {
+            Ground::NotLetter(at) => at,
+            Ground::BadException { offset, .. } => offset,
+            Ground::BadPattern(offset) => offset,
+            _ => 0,
+        }
     }
 }

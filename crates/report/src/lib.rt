@@ -50,9 +50,9 @@ pub fn put_refusal(sign: u8, ground: Ground, room: &mut [u8], at: usize) -> usiz
     requires { at + length (refusal_line sign ground) ≤ length room.old }
     ensures { Put (refusal_line sign ground) at room.old result room.new }
 {
-    let number = base::number_of(ground);
-    let list = base::list_of(ground);
-    let place = base::place_of(ground);
+    let number = ground.number();
+    let list = ground.list();
+    let place = ground.place();
     put_told(sign, number as u64, list as u64, place as u64, room, at)
 }
 

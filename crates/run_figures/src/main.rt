@@ -24,7 +24,7 @@ fn show(sample: &[u8], judged: Result<(), Ground>) {
     io::write_all(1, b":");
     match judged {
         Ok(()) => put_numbers(&[0, 0, 0]),
-        Err(g) => put_numbers(&[base::number_of(g), base::list_of(g), base::place_of(g)]),
+        Err(g) => put_numbers(&[g.number(), g.list(), g.place()]),
     }
     io::write_all(1, b"\n");
 }
@@ -86,7 +86,7 @@ fn show_fitting(fitting: Result<Fitting, Ground>) {
         Ok(Fitting::Nowhere) => put_numbers(&[gauge::NONE_OUTCOME, 0]),
         Err(g) => {
             io::write_all(1, b" ?");
-            put_numbers(&[base::number_of(g), base::place_of(g)]);
+            put_numbers(&[g.number(), g.place()]);
         }
     }
     io::write_all(1, b"\n");

@@ -1,27 +1,22 @@
--- Equal fields have equal bits, and what a running text's call leaves of its state's bytes.
+-- The bits of an answer by its cases, and what a running text's call leaves of its state's bytes.
 use Prim.Native.Nat.{ℕ}
 use mathlib.Core.List.{List}
 use mathlib.Core.Path.{◌≡◌, ◌∙◌, ap, subst}
 use lib.ListN.{length}
 use Rattle.base.specs.declared.Ground.{Ground}
-use Rattle.states.specs.Bytes.{state_bytes, of_bytes}
+use Rattle.states.specs.Bytes.{of_bytes}
 use Rattle.states.specs.State.{read_state}
 use Rattle.states.specs.declared.TextState.{TextState}
-use Rattle.running.specs.Calls.{total_now, Pieces, piece_answer, piece_next, piece_room, Ends, end_answer, end_next, end_room, TextAnswer, written}
+use Rattle.running.specs.Calls.{total_now, Pieces, piece_answer, piece_next, piece_room, Ends, end_answer, end_next, end_room}
 use Rattle.running.specs.declared.Taken.{Taken}
-use Rattle.std.specs.Prelude.{Err}
+use Rattle.std.specs.Prelude.{Result, Ok, Err, MatchResult}
 use Rattle.running.proofs.Order.{piece_ordered, end_ordered, computed}
-use Rattle.tteolmigu.specs.Bits.{told_bits, text_bits, bytes_left}
+use Rattle.tteolmigu.specs.Bits.{text_bits, bytes_left}
 
-pub told_fields : {number list place n l p : ℕ} → number ≡ n → list ≡ l → place ≡ p → told_bits number list place ≡ told_bits n l p
-told_fields en el ep = cc
-
-module _ (answer : TextAnswer) (bytes : List ℕ) (then : TextState) where
-  pub bytes_put : {length looks : ℕ} → answer ≡ written length looks → {after : List ℕ} → after ≡ state_bytes then → after ≡ bytes_left answer bytes then
-  bytes_put e p = rw e p
-
-  pub bytes_kept : {g : Ground} → answer ≡ Err g → bytes ≡ bytes_left answer bytes then
-  bytes_kept e = rw e
+-- An answer has the bits of what it is: a finding, or a refusal.
+pub by_cases : {T : Type 0} (bits_of : Result T Ground → ℕ) (answer : Result T Ground) {bits : ℕ} → MatchResult answer (λ found. bits ≡ bits_of (Ok found)) (λ ground. bits ≡ bits_of (Err ground)) → bits ≡ bits_of answer
+by_cases bits_of (Ok found) e = e
+by_cases bits_of (Err ground) e = e
 
 -- what the two calls leave, over the state that the bytes tell
 module _ (bytes : List ℕ) (left right : ℕ) (customer house table : List ℕ) {given : TextState} (g : given ≡ of_bytes bytes) where

@@ -1,7 +1,7 @@
 // The C interface: the nine calls, each answer as one number of 64 bits. The crate tteolmigu_c exports them.
 #![tactic(auto)]
 
-ghost use Rattle.std.specs.Prelude.{◌≡◌, ◌-◌, length};
+ghost use Rattle.std.specs.Prelude.{◌≡◌, Ok, MatchResult, length};
 ghost use Rattle.lookup.specs.Lookup.{locate};
 ghost use Rattle.rightness.specs.Test.{judge_check};
 ghost use Rattle.hyphenation.specs.Calls.{levels_answer, levels_room, breaks_answer, breaks_room};
@@ -11,7 +11,7 @@ ghost use Rattle.base.specs.Limits.{budget1980};
 ghost use Rattle.machine1980.specs.Calls.{said1980, answer1980, room1980};
 ghost use Rattle.states.specs.Bytes.{of_bytes};
 ghost use Rattle.running.specs.Calls.{piece_answer, piece_next, piece_room, end_answer, end_next, end_room};
-ghost use Rattle.tteolmigu.specs.Bits.{bits_at, told_bits, refusal_bits, found_bits, line_bits, answer_bits, packing_bits, check_bits, located_bits, fitting_bits, fit_bits, reprint_bits, bits1980, written_bits, text_bits, bytes_left};
+ghost use Rattle.tteolmigu.specs.Bits.{bits_at, refusal_bits, found_bits, line_bits, answer_bits, packing_bits, check_bits, located_bits, fitting_bits, fit_bits, reprint_bits, bits1980, written_bits, text_bits, bytes_left};
 
 use base::Ground;
 use gauge::{Fitting, Gauge};
@@ -20,36 +20,72 @@ use lookup::Located;
 use machine1980::Reprint;
 use running::{Taken, Written};
 
-// The bits of a refusal's number, list and place.
-fn told_bits(number: usize, list: usize, place: usize) -> u64
-    ensures { result ≡ told_bits number list place }
-{
-    let high = number as u64 % 256;
-    let middle = list as u64 % 256;
-    let low = place as u64 % 281474976710656;
-    high * 72057594037927936 + middle * 281474976710656 + low
+// An answer as C gets it. Every part is cut to its own width (specs/Bits.antt), so that no sum overflows.
+#[derive(Clone, Copy)]
+struct Bits {
+    number: u64,
 }
 
-// The bits of a refusal.
-fn refusal_bits(ground: Ground) -> u64
-    ensures { result ≡ refusal_bits ground }
-{
-    let number = base::number_of(ground);
-    let list = base::list_of(ground);
-    let place = base::place_of(ground);
-    told_bits(number, list, place)
+// A refusal: its number, list and place.
+impl From<Ground> for Bits {
+    ghost from_gives = { λ ground bits. bits.number ≡ refusal_bits ground };
+
+    fn from(ground: Ground) -> Self {
+        let high = ground.number() as u64 % 256;
+        let middle = ground.list() as u64 % 256;
+        let low = ground.place() as u64 % 281474976710656;
+        Bits {
+            number: high * 72057594037927936 + middle * 281474976710656 + low,
+        }
+    }
 }
 
-// The bits of a finding of the levels call or the hyphenating call.
-fn found_bits(marks: usize, looks: usize) -> u64
-    ensures { result ≡ found_bits marks looks }
-{
-    let high = marks as u64 % 65536;
-    let low = looks as u64 % 4294967296;
-    high * 4294967296 + low
+// What a call finds, or its refusal.
+impl<T: Into<Bits>> From<Result<T, Ground>> for Bits {
+    ghost from_gives = { λ answer bits. MatchResult answer (λ found. T.Into.converts found bits) (λ ground. bits.number ≡ refusal_bits ground) };
+
+    fn from(answer: Result<T, Ground>) -> Self {
+        match answer {
+            Ok(found) => found.into(),
+            Err(ground) => ground.into(),
+        }
+    }
 }
 
-// The bits of a line that the lookup found.
+// The levels call and the hyphenating call.
+impl From<Found> for Bits {
+    ghost from_gives = { λ found bits. bits.number ≡ found_bits found.marks found.looks };
+
+    fn from(found: Found) -> Self {
+        let high = found.marks as u64 % 65536;
+        let low = found.looks as u64 % 4294967296;
+        Bits {
+            number: high * 4294967296 + low,
+        }
+    }
+}
+
+// The packer: a table's length.
+impl From<usize> for Bits {
+    ghost from_gives = { λ size bits. bits.number ≡ bits_at 0 48 size };
+
+    fn from(size: usize) -> Self {
+        Bits {
+            number: size as u64 % 281474976710656,
+        }
+    }
+}
+
+// The checker, where it accepts.
+impl From<()> for Bits {
+    ghost from_gives = { λ _ bits. bits.number ≡ 0 };
+
+    fn from(_accepted: ()) -> Self {
+        Bits { number: 0 }
+    }
+}
+
+// A line of the lookup.
 fn line_bits(list: usize, start: usize, end: usize) -> u64
     ensures { result ≡ line_bits list start end }
 {
@@ -59,51 +95,21 @@ fn line_bits(list: usize, start: usize, end: usize) -> u64
     which * 281474976710656 + offset * 65536 + size
 }
 
-fn answer_bits(answer: Result<Found, Ground>) -> u64
-    ensures { result ≡ answer_bits answer }
-{
-    match answer {
-        Ok(Found { marks, looks }) => found_bits(marks, looks),
-        Err(g) => refusal_bits(g),
+// The lookup.
+impl From<Located> for Bits {
+    ghost from_gives = { λ at bits. bits.number ≡ located_bits at };
+
+    fn from(at: Located) -> Self {
+        let number = match at {
+            Located::Customer { start, end } => line_bits(base::CUSTOMER_LIST, start, end),
+            Located::House { start, end } => line_bits(base::HOUSE_LIST, start, end),
+            Located::Nowhere => 0,
+        };
+        Bits { number }
     }
 }
 
-// The bits of a length.
-fn size_bits(size: usize) -> u64
-    ensures { result ≡ bits_at 0 48 size }
-{
-    size as u64 % 281474976710656
-}
-
-fn packing_bits(packing: Result<usize, Ground>) -> u64
-    ensures { result ≡ packing_bits packing }
-{
-    match packing {
-        Ok(size) => size_bits(size),
-        Err(g) => refusal_bits(g),
-    }
-}
-
-fn check_bits(check: Result<(), Ground>) -> u64
-    ensures { result ≡ check_bits check }
-{
-    match check {
-        Ok(()) => 0,
-        Err(g) => refusal_bits(g),
-    }
-}
-
-fn located_bits(at: Located) -> u64
-    ensures { result ≡ located_bits at }
-{
-    match at {
-        Located::Customer { start, end } => line_bits(base::CUSTOMER_LIST, start, end),
-        Located::House { start, end } => line_bits(base::HOUSE_LIST, start, end),
-        Located::Nowhere => 0,
-    }
-}
-
-// The bits of a finding of the fitting call.
+// What comes out of the fitting call.
 fn fitting_bits(outcome: usize, gap: usize) -> u64
     ensures { result ≡ fitting_bits outcome gap }
 {
@@ -112,27 +118,22 @@ fn fitting_bits(outcome: usize, gap: usize) -> u64
     code * 4294967296 + low
 }
 
-// The bits of what fits.
-fn outcome_bits(fitting: Fitting) -> u64
-    ensures { result ≡ fit_bits (fit_said (Ok fitting)) }
-{
-    match fitting {
-        Fitting::Whole => fitting_bits(gauge::WHOLE_OUTCOME, 0),
-        Fitting::Break(gap) => fitting_bits(gauge::BREAK_OUTCOME, gap),
-        Fitting::Nowhere => fitting_bits(gauge::NONE_OUTCOME, 0),
+// The fitting call.
+#[tactic(auto, unfolding(gauge::specs::Fit::fit_said))]
+impl From<Fitting> for Bits {
+    ghost from_gives = { λ fitting bits. bits.number ≡ fit_bits (fit_said (Ok fitting)) };
+
+    fn from(fitting: Fitting) -> Self {
+        let number = match fitting {
+            Fitting::Whole => fitting_bits(gauge::WHOLE_OUTCOME, 0),
+            Fitting::Break(gap) => fitting_bits(gauge::BREAK_OUTCOME, gap),
+            Fitting::Nowhere => fitting_bits(gauge::NONE_OUTCOME, 0),
+        };
+        Bits { number }
     }
 }
 
-fn fit_bits(answer: Result<Fitting, Ground>) -> u64
-    ensures { result ≡ fit_bits (fit_said answer) }
-{
-    match answer {
-        Ok(fitting) => outcome_bits(fitting),
-        Err(g) => refusal_bits(g),
-    }
-}
-
-// The bits of a finding of the 1980 machine.
+// What the 1980 machine comes to, with its breaks and the instructions executed.
 fn reprint_bits(outcome: usize, breaks: usize, executed: usize) -> u64
     ensures { result ≡ reprint_bits outcome breaks executed }
 {
@@ -142,52 +143,45 @@ fn reprint_bits(outcome: usize, breaks: usize, executed: usize) -> u64
     high * 281474976710656 + middle * 4294967296 + low
 }
 
-// The bits of what the 1980 machine comes to.
-fn run_bits(found: Option<Reprint>) -> u64
-    ensures { result ≡ bits1980 (said1980 (Ok found)) }
-{
-    match found {
-        Some(Reprint { breaks, executed }) => {
-            reprint_bits(machine1980::ANSWERED_OUTCOME, breaks, executed)
+// The 1980 machine.
+#[tactic(auto, unfolding(machine1980::specs::Calls::said1980))]
+impl From<Option<Reprint>> for Bits {
+    ghost from_gives = { λ found bits. bits.number ≡ bits1980 (said1980 (Ok found)) };
+
+    fn from(found: Option<Reprint>) -> Self {
+        let number = match found {
+            Some(Reprint { breaks, executed }) => {
+                reprint_bits(machine1980::ANSWERED_OUTCOME, breaks, executed)
+            }
+            None => reprint_bits(machine1980::RAN_OUT_OUTCOME, 0, 0),
+        };
+        Bits { number }
+    }
+}
+
+// A running text's calls.
+impl From<Written> for Bits {
+    ghost from_gives = { λ written bits. bits.number ≡ written_bits written.length written.looks };
+
+    fn from(written: Written) -> Self {
+        let Written { length, looks } = written;
+        let size = length as u64 % 16777216;
+        let count = looks as u64 % 4294967296;
+        Bits {
+            number: size * 4294967296 + count,
         }
-        None => reprint_bits(machine1980::RAN_OUT_OUTCOME, 0, 0),
     }
 }
 
-fn bits_1980(answer: Result<Option<Reprint>, Ground>) -> u64
-    ensures { result ≡ bits1980 (said1980 answer) }
-{
-    match answer {
-        Ok(found) => run_bits(found),
-        Err(g) => refusal_bits(g),
-    }
-}
-
-// The bits of a finding of a running text's calls.
-fn written_bits(length: usize, looks: usize) -> u64
-    ensures { result ≡ written_bits length looks }
-{
-    let size = length as u64 % 16777216;
-    let count = looks as u64 % 4294967296;
-    size * 4294967296 + count
-}
-
-// The bits of such a call's answer, and where it took something its state's bytes.
+// The bits of a running text's answer; where it took something, its state's bytes are put too.
 fn put_taken(taken: Taken, state: &mut [u8; states::STATE_SIZE]) -> u64
     ensures bits { result ≡ text_bits taken.answer }
     ensures state { state.new ≡ bytes_left taken.answer state.old taken.state }
 {
-    let Taken {
-        state: next,
-        answer,
-    } = taken;
-    match answer {
-        Ok(Written { length, looks }) => {
-            states::put_bytes(next, state);
-            written_bits(length, looks)
-        }
-        Err(g) => refusal_bits(g),
+    if taken.answer.is_ok() {
+        states::put_bytes(taken.state, state);
     }
+    Bits::from(taken.answer).number
 }
 
 // The hyphenating call. Its parameters, and those of the calls below, are the exports'.
@@ -210,7 +204,7 @@ pub fn tteolmigu_hyphenate<'a>(
         house,
         table,
     };
-    answer_bits(hyphenation::hyphenate(&setting, word, room))
+    Bits::from(hyphenation::hyphenate(&setting, word, room)).number
 }
 
 // The levels call.
@@ -218,7 +212,7 @@ pub fn tteolmigu_levels(word: &[u8], table: &[u8], room: &mut [u8]) -> u64
     ensures bits { result ≡ answer_bits (levels_answer word.now table.now (length room.old)) }
     ensures memory { room.new ≡ levels_room word.now table.now room.old }
 {
-    answer_bits(hyphenation::levels(word, table, room))
+    Bits::from(hyphenation::levels(word, table, room)).number
 }
 
 // The packer.
@@ -226,21 +220,21 @@ pub fn tteolmigu_pack(patterns: &[u8], room: &mut [u8]) -> u64
     ensures bits { result ≡ packing_bits (pack_answer patterns.now (length room.old)) }
     ensures memory { room.new ≡ pack_leaves patterns.now room.old }
 {
-    packing_bits(packer::pack(patterns, room))
+    Bits::from(packer::pack(patterns, room)).number
 }
 
 // The checker.
 pub fn tteolmigu_check(patterns: &[u8], table: &[u8]) -> u64
     ensures { result ≡ check_bits (judge_check patterns.now table.now) }
 {
-    check_bits(checker::check(patterns, table))
+    Bits::from(checker::check(patterns, table)).number
 }
 
 // The lookup.
 pub fn tteolmigu_lookup(word: &[u8], customer: &[u8], house: &[u8]) -> u64
     ensures { result ≡ located_bits (locate word.now customer.now house.now) }
 {
-    located_bits(lookup::locate_line(word, customer, house))
+    Bits::from(lookup::locate_line(word, customer, house)).number
 }
 
 // The fitting call: which break of a word fits a line.
@@ -257,7 +251,7 @@ pub fn tteolmigu_fit(
         hyphen: hyphen,
         line: line,
     };
-    fit_bits(gauge::fit_word(gauge, widths, word, room))
+    Bits::from(gauge::fit_word(gauge, widths, word, room)).number
 }
 
 // The 1980 machine.
@@ -265,7 +259,7 @@ pub fn tteolmigu_1980(word: &[u8], room: &mut [u8]) -> u64
     ensures bits { result ≡ bits1980 (answer1980 budget1980 word.now (length room.old)) }
     ensures memory { room.new ≡ room1980 budget1980 word.now room.old }
 {
-    bits_1980(machine1980::hyphenate_1980(word, room))
+    Bits::from(machine1980::hyphenate_1980(word, room)).number
 }
 
 // A piece of a running text.

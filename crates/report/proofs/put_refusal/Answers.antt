@@ -6,7 +6,7 @@ use Rattle.report.proofs.Laws.{told_same}
 use Rattle.report.proofs.put_refusal.Goals as goal
 
 pub put_told-requires : goal.put_told-requires
-put_told-requires c = omega (arith, c.requires, ap length (told_same c.args.sign c.number_of-number.ensures c.list_of-list.ensures c.place_of-place.ensures))
+put_told-requires c = omega (arith, c.requires, ap length (told_same c.args.sign c.number-number.ensures c.list-list.ensures c.place-place.ensures))
 
 pub returns : goal.returns
-returns c = put_as (told_same _ c.number_of-number.ensures c.list_of-list.ensures c.place_of-place.ensures) c.put_told.ensures
+returns c = put_as (told_same _ c.number-number.ensures c.list-list.ensures c.place-place.ensures) c.put_told.ensures
