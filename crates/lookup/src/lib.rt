@@ -175,17 +175,16 @@ pub fn is_line_of(word: &[u8], line: &[u8]) -> bool
 pub fn find_line(word: &[u8], text: &[u8]) -> Option<Span>
     ensures { result ≡ find word.now text.now }
 {
-    let mut at = 0;
-    // `lines::line_end` says where the next line begins, and the place is part of the answer; nothing is counted.
-    while at < text.len() {
-        let end = lines::line_end(text, at);
-        if is_line_of(word, &text[at..end]) {
+    let mut start = 0;
+    for line in text.split_inclusive(|b| *b == words::LINE_FEED) {
+        let end = start + line.len();
+        if is_line_of(word, line) {
             return Some(Span {
-                start: at,
+                start,
                 end: end - 1,
             });
         }
-        at = end;
+        start = end;
     }
     None
 }
