@@ -63,6 +63,7 @@ pub fn lower_of(b: u8) -> u8
 }
 
 // The symbol that a byte of a text stands for, 0 for none and no Option: the definition has 0, and every list of symbols is filtered by it.
+#[tactic(auto, unfolding(crate::specs::Symbols::symbol_of, crate::specs::Symbols::small))]
 pub fn symbol_of(b: u8) -> u8
     ensures { result ≡ symbol_of b }
 {
@@ -79,6 +80,7 @@ pub fn symbol_of(b: u8) -> u8
 }
 
 // A letter's symbol, whatever its case: both cases have the same last five bits, and these number the alphabet.
+#[tactic(auto, using(crate::proofs::Theorems::letter_bits))]
 pub fn letter_symbol(b: u8) -> u8
     requires { letter b ≡ true }
     ensures { result ≡ symbol_of (lower b) }
@@ -87,6 +89,7 @@ pub fn letter_symbol(b: u8) -> u8
 }
 
 // The symbol of a byte of a judged word.
+#[tactic(auto, using(crate::proofs::Laws::byte_letter, crate::proofs::Laws::apostrophe_lower))]
 pub fn word_symbol(b: u8) -> u8
     requires { word_byte b ≡ true }
     ensures { result ≡ symbol_of (lower b) }
@@ -98,6 +101,7 @@ pub fn word_symbol(b: u8) -> u8
 }
 
 // Grounds 2 and 4 of a word of this size and at most limit bytes.
+#[tactic(auto, unfolding(crate::specs::Words::judge_length))]
 fn judge_length(size: usize, limit: usize) -> Result<(), Ground>
     ensures { result ≡ judge_length limit size }
 {
@@ -136,6 +140,7 @@ pub fn judge_letters(word: &[u8], limit: usize) -> Result<(), Ground>
 }
 
 // Is the byte at i an apostrophe between two letters?
+#[tactic(auto, unfolding(crate::specs::Words::is_between, crate::specs::Words::letter_before, crate::specs::Words::starts_letter))]
 fn is_between(word: &[u8], i: usize) -> bool
     requires { i < length word.now }
     ensures { result ≡ is_between (letter_before word.now i) (get_or word.now i 0) (drop (i + 1) word.now) }
