@@ -1,11 +1,11 @@
 -- Laws about letters, symbols and words. Function proofs and other crates cite these and not the definitions.
 use Prim.Native.Nat.{ℕ, zero, suc, ◌+◌, ◌-◌, ◌≤◌, ◌<◌}
-use mathlib.Core.Bool.{Bool, true, false, cond, ◌&&◌, ◌||◌, or-false}
+use mathlib.Core.Bool.{Bool, true, false, cond, not, ◌&&◌, ◌||◌, or-false}
 use mathlib.Core.List.{List, [], ◌∷◌, ◌++◌}
 use mathlib.Core.Path.{◌≡◌, refl, sym, ◌∙◌, ap}
 use native.Mathlib.Numerals.{add-one}
 use native.Mathlib.Omega.{arith}
-use borrow.Author.Tests.{lt-leb, le-leb, le-ltb, eq-eqb, ne_eqb, leb-true, ltb-false, eqb-false}
+use borrow.Author.Tests.{lt-leb, le-leb, le-ltb, eq-eqb, ne_eqb, leb-true, ltb-false, eqb-false, not-true, not-false}
 use lib.Dec.{leb, ltb, eqb}
 use lib.ListN.{length, get_or, drop, length-append, drop_of_length-le}
 use Rattle.base.specs.Limits.{edge, apostrophe_symbol}
@@ -101,6 +101,40 @@ module _ (rule : Rule) (after : Bool) (w : List ℕ) (i : ℕ) (h : i < length w
 pub fit_end : (rule : Rule) (after : Bool) (w : List ℕ) (i : ℕ) → length w ≤ i → all_fit rule i after (drop i w) ≡ Ok tt
 unfolding all_fit
 fit_end rule after w i h = rw (drop_of_length-le w h)
+
+-- an apostrophe between two letters
+before_not : (w : List ℕ) (i : ℕ) → i ≡ 0 → letter_before w i ≡ false
+unfolding letter_before
+before_not w i z = rw z
+
+before_in : (w : List ℕ) (i : ℕ) → (i ≡ 0 → ⊥) → letter_before w i ≡ letter (get_or w (i - 1) 0)
+unfolding letter_before
+before_in w zero z = absurd (z refl)
+before_in w (suc k) z = let e : suc k - 1 ≡ k = omega arith in rw e
+
+module _ (w : List ℕ) (i : ℕ) where
+  pub between_other : (get_or w i 0 ≡ apostrophe → ⊥) → false ≡ is_between (letter_before w i) (get_or w i 0) (drop (i + 1) w)
+  unfolding is_between
+  between_other q = rw (ne_eqb (get_or w i 0) apostrophe q)
+
+  module _ (q : get_or w i 0 ≡ apostrophe) where
+    pub between_first : i ≡ 0 → false ≡ is_between (letter_before w i) (get_or w i 0) (drop (i + 1) w)
+    unfolding is_between
+    between_first z = rw (eq-eqb (get_or w i 0) apostrophe q, before_not w i z)
+
+    module _ (z : i ≡ 0 → ⊥) {r : Bool} (l : r ≡ letter (get_or w (i - 1) 0)) where
+      pub between_behind : not r ≡ true → false ≡ is_between (letter_before w i) (get_or w i 0) (drop (i + 1) w)
+      unfolding is_between
+      between_behind n = rw (eq-eqb (get_or w i 0) apostrophe q, before_in w i z ∙ sym l ∙ not-true r n)
+
+      module _ (n : not r ≡ false) where
+        pub between_last : length w ≤ i + 1 → false ≡ is_between (letter_before w i) (get_or w i 0) (drop (i + 1) w)
+        unfolding is_between starts_letter
+        between_last h = rw (eq-eqb (get_or w i 0) apostrophe q, before_in w i z ∙ sym l ∙ not-false r n, drop_of_length-le w h)
+
+        pub between_inside : i + 1 < length w → letter (get_or w (i + 1) 0) ≡ is_between (letter_before w i) (get_or w i 0) (drop (i + 1) w)
+        unfolding is_between starts_letter
+        between_inside h = rw (eq-eqb (get_or w i 0) apostrophe q, before_in w i z ∙ sym l ∙ not-false r n, cons_at w (i + 1) h)
 
 -- the judgement byte by byte, by a test of the bytes that are no letters
 pub fit_start : (rule : Rule) (w : List ℕ) → all_fit rule 0 false w ≡ all_fit rule 0 (letter_before w 0) (drop 0 w)

@@ -140,7 +140,6 @@ pub fn judge_letters(word: &[u8], limit: usize) -> Result<(), Ground>
 }
 
 // Is the byte at i an apostrophe between two letters?
-#[tactic(auto, unfolding(crate::specs::Words::is_between, crate::specs::Words::letter_before, crate::specs::Words::starts_letter))]
 fn is_between(word: &[u8], i: usize) -> bool
     requires { i < length word.now }
     ensures { result ≡ is_between (letter_before word.now i) (get_or word.now i 0) (drop (i + 1) word.now) }
