@@ -8,9 +8,6 @@ use Rattle.placing.proofs.find_base.Goals as goal
 pub loop-base-init : goal.loop-base-init
 loop-base-init c = (search rules, refl)
 
-pub is_serving-requires : goal.is_serving-requires
-is_serving-requires c = (omega (arith, c.requires, c.loop-base-test.true), c.first_marked-first.ensures.0, c.first_marked-first.ensures.1)
-
 pub returns-then-is_serving : goal.returns-then-is_serving
 returns-then-is_serving c = sym (c.loop-base.invariant.1 ∙ smallest_here _ _ cell_limit c.loop-base-test.true (sym c.is_serving.ensures ∙ c.if-is_serving.true))
 

@@ -7,13 +7,7 @@ pub returns-then-not-is_opening : goal.returns-then-not-is_opening
 returns-then-not-is_opening c = line_kept _ _ _ (sym c.is_opening.ensures ∙ c.if-not-is_opening.true)
 
 pub place_path-requires : goal.place_path-requires
-place_path-requires c = (c.requires, opens_long _ _ (symbols_of c.args.own.now) (sym c.is_opening.ensures ∙ c.if-not-is_opening.false))
-
-pub shape_of-cells : goal.shape_of-cells
-shape_of-cells c = c.place_path.auto.cells
-
-pub shape_of-taken : goal.shape_of-taken
-shape_of-taken c = c.place_path.auto.taken
+place_path-requires c = opens_long _ _ (symbols_of c.args.path.now.own.now) (sym c.is_opening.ensures ∙ c.if-not-is_opening.false)
 
 pub returns : goal.returns
 returns c = line_placed _ _ _ (sym c.is_opening.ensures ∙ c.if-not-is_opening.false) c.place_path.ensures

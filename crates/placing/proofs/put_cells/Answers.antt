@@ -8,19 +8,13 @@ use Rattle.placing.proofs.Laws.{cells_marked, cells_other, cells_end}
 use Rattle.placing.proofs.put_cells.Goals as goal
 
 pub loop-symbol-init : goal.loop-symbol-init
-loop-symbol-init c = (search rules, refl, refl)
-
-pub put_cell-requires : goal.put_cell-requires
-put_cell-requires c = (c.loop-symbol.invariant.1 ∙ c.requires, search rules)
+loop-symbol-init c = (search rules, refl)
 
 pub loop-symbol-preserved-then-mask-symbol-ne1 : goal.loop-symbol-preserved-then-mask-symbol-ne1
-loop-symbol-preserved-then-mask-symbol-ne1 c = (search rules, c.loop-symbol.invariant.1, c.loop-symbol.invariant.2 ∙ cells_other _ _ _ (suc symbol_limit) _ (omega arith) (ne_eqb _ _ c.if-mask-symbol-ne1.true))
+loop-symbol-preserved-then-mask-symbol-ne1 c = (search rules, c.loop-symbol.invariant.1 ∙ cells_other _ _ _ (suc symbol_limit) _ (omega arith) (ne_eqb _ _ c.if-mask-symbol-ne1.true))
 
 pub loop-symbol-preserved : goal.loop-symbol-preserved
-loop-symbol-preserved c = (search rules, c.put_cell.auto.cells ∙ c.loop-symbol.invariant.1, c.loop-symbol.invariant.2 ∙ cells_marked _ _ _ (suc symbol_limit) _ (omega arith) (eq-eqb _ _ c.if-mask-symbol-ne1.false) c.put_cell.ensures)
-
-pub shape_of-cells : goal.shape_of-cells
-shape_of-cells c = c.loop-symbol.invariant.1
+loop-symbol-preserved c = (search rules, c.loop-symbol.invariant.1 ∙ cells_marked _ _ _ (suc symbol_limit) _ (omega arith) (eq-eqb _ _ c.if-mask-symbol-ne1.false) c.put_cell.ensures)
 
 pub returns : goal.returns
-returns c = sym (c.loop-symbol.invariant.2 ∙ cells_end _ _ _ (suc symbol_limit) _ (omega arith))
+returns c = sym (c.loop-symbol.invariant.1 ∙ cells_end _ _ _ (suc symbol_limit) _ (omega arith))
