@@ -32,6 +32,7 @@ fn is_entry(bytes: &[u8; table::ENTRY_ROOM], at: usize, entry: Entry) -> bool
 }
 
 // The number of the first entry that is this one. No entry has number 0.
+#[tactic(auto, using(crate::proofs::Laws::find_start, crate::proofs::Laws::find_here, crate::proofs::Laws::find_on, crate::proofs::Laws::find_none))]
 fn find_entry(bytes: &[u8; table::ENTRY_ROOM], count: u16, entry: Entry) -> Option<u16>
     requires { count ≤ entry_limit }
     ensures number { unwrap_or result 0 ≡ fit.find_entry bytes.now entry.distance entry.level entry.next 1 count }
@@ -58,6 +59,7 @@ fn put_entry(bytes: &mut [u8; table::ENTRY_ROOM], at: usize, entry: Entry)
 }
 
 // One entry: an equal earlier one is used again, else one more is made; nothing where there are too many.
+#[tactic(auto, using(crate::proofs::Laws::enter_again, crate::proofs::Laws::enter_new, crate::proofs::Laws::enter_over))]
 fn enter(bytes: &mut [u8; table::ENTRY_ROOM], count: u16, entry: Entry) -> Option<Made>
     requires { count ≤ entry_limit }
     ensures next_value { fit.enter entry.distance entry.level (fit.Made bytes.old count entry.next) ≡ as_entries bytes.new result }
@@ -79,6 +81,7 @@ fn enter(bytes: &mut [u8; table::ENTRY_ROOM], count: u16, entry: Entry) -> Optio
 
 // The chain of a pattern line of m symbols: its nonzero levels from the smallest distance up. Where there are too
 // many entries, what the room holds is left open.
+#[tactic(auto, using(crate::proofs::Laws::levels_start, crate::proofs::Laws::levels_over, crate::proofs::Laws::levels_skip, crate::proofs::Laws::levels_enter, crate::proofs::Laws::levels_end))]
 pub fn enter_levels(
     bytes: &mut [u8; table::ENTRY_ROOM],
     count: u16,

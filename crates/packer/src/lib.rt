@@ -25,6 +25,7 @@ pub struct Laid {
 }
 
 // The highest used cell + 1, or 1 if none is.
+#[tactic(auto, using(crate::proofs::Laws::used_here, crate::proofs::Laws::used_on, crate::proofs::Laws::used_end))]
 fn used_cells(cells: &[u8; table::CELL_ROOM]) -> usize
     ensures value { result ≡ used_from cells.now 0 cell_limit 1 }
     ensures lower_bound { (1 ≤ result) × (result ≤ cell_limit) }
@@ -41,6 +42,7 @@ fn used_cells(cells: &[u8; table::CELL_ROOM]) -> usize
 }
 
 // The kinds of the first cells.
+#[tactic(auto, using(crate::proofs::Laws::kinds_turn, crate::proofs::Laws::kinds_end))]
 fn put_kinds(cells: &mut [u8; table::CELL_ROOM], count: usize)
     requires { count ≤ cell_limit }
     ensures { cells.new ≡ put_kinds count cells.old }
@@ -51,6 +53,7 @@ fn put_kinds(cells: &mut [u8; table::CELL_ROOM], count: usize)
 }
 
 // The output of a pattern line of m symbols, in the cell that it ends in from the root's base.
+#[tactic(auto, using(crate::proofs::Laws::output_put))]
 fn put_output(cells: &mut [u8; table::CELL_ROOM], root: u16, line: &[u8], m: u8, output: u16)
     requires { (0 < m) × (m ≡ length (symbols_of line.now)) }
     ensures { cells.new ≡ put_number (cell_size * cell_of cells.old root (symbols_of line.now) + 4) output cells.old }
@@ -61,6 +64,7 @@ fn put_output(cells: &mut [u8; table::CELL_ROOM], root: u16, line: &[u8], m: u8,
 
 // The outputs of every pattern of a good text, walked from the root's base, and the entries behind them. The count says how many
 // entries are there before; nothing where there are too many.
+#[tactic(auto, using(crate::proofs::Laws::shaped_start, crate::proofs::Laws::outputs_start, crate::proofs::Laws::outputs_end))]
 fn put_outputs(
     cells: &mut [u8; table::CELL_ROOM],
     made: &mut [u8; table::ENTRY_ROOM],
@@ -130,6 +134,7 @@ fn finish(room: &mut [u8], made: &[u8; table::ENTRY_ROOM], cells: u16, entries: 
 }
 
 // The first-fit table of a good text, in a room that is zero where a table may stand.
+#[tactic(auto, using(crate::proofs::Laws::filled_length, crate::proofs::Laws::filled_holds))]
 fn lay(room: &mut [u8], text: &[u8]) -> Result<usize, Ground>
     requires { (pack_room ≤ length room.old) × (take pack_room room.old ≡ replicate pack_room 0) × (judge_patterns text.now ≡ Ok tt) }
     ensures { Lays text.now room.old result room.new }

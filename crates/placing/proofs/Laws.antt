@@ -6,7 +6,7 @@ use mathlib.Core.Path.{◌≡◌, refl, sym, ◌∙◌, ap}
 use native.Mathlib.Nat.{sub-zero}
 use native.Mathlib.Numerals.{add-one}
 use native.Mathlib.Omega.{arith}
-use borrow.Author.Tests.{lt-leb, le-leb, lt-ltb, le-ltb, eq-eqb, ne_eqb, eqb-true, eqb-false, ltb-true, leb-true, leb-false}
+use borrow.Author.Tests.{eq-eqb, ne_eqb, eqb-true, eqb-false, ltb-true}
 use lib.Dec.{leb, ltb, eqb}
 use lib.ListN.{length, get_or, take, drop, set, replicate, length-set, drop_of_length-le}
 use lib.Seq.{set_out, get_or-take, length-take-le}
@@ -20,7 +20,7 @@ use Rattle.table.specs.Table.{cell_kind, cell_size, number_at}
 use Rattle.patterns.specs.Common.{common}
 use Rattle.patterns.specs.Next.{next_in, next_mask, opens}
 use Rattle.patterns.proofs.Next.{mask_says}
-use Rattle.base.specs.Tests.{all_from, smallest}
+use Rattle.base.specs.Tests.{smallest}
 use Rattle.base.proofs.All.{all_same, all_not}
 use Rattle.fit.specs.Cells.{put_number, is_free, serves, base_for, inside, put_cell, put_cells, cell_of, put_link, Layout, Full, Fits, place_at, place, place_length, place_lengths}
 use Rattle.placing.specs.Post.{marked, place_line, Placed}
@@ -35,18 +35,10 @@ module _ (mark : ℕ) (b : Bool) where
 
 -- a base that serves
 module _ (bytes taken : List ℕ) (child : ℕ → Bool) (base : ℕ) where
-  pub serves_taken : (get_or taken base 0 ≡ 0 → ⊥) → false ≡ serves bytes taken child base
-  unfolding serves
-  serves_taken h = rw (ne_eqb (get_or taken base 0) 0 h)
-
   pub serves_used : {first : ℕ} {r : Bool} → get_or taken base 0 ≡ 0 → 1 ≤ first → first ≤ symbol_limit → child first ≡ true → r ≡ is_free bytes (base + first) → r ≡ false → false ≡ serves bytes taken child base
   unfolding serves
   serves_used {first = first} h a b m e z =
       rw (eq-eqb (get_or taken base 0) 0 h) (sym (all_not (λ s. not (child s) || is_free bytes (base + s)) 1 symbol_limit first a (omega (arith, b)) (rw m (sym e ∙ z))))
-
-  pub serves_free : {r : Bool} → get_or taken base 0 ≡ 0 → r ≡ all_from (λ s. not (child s) || is_free bytes (base + s)) 1 symbol_limit → r ≡ serves bytes taken child base
-  unfolding serves
-  serves_free h e = e ∙ rw (eq-eqb (get_or taken base 0) 0 h)
 
 -- the smallest number below a total that passes a test, from k on
 module _ (test : ℕ → Bool) (k total : ℕ) where
@@ -66,10 +58,6 @@ module _ (test : ℕ → Bool) (k total : ℕ) where
 
 -- one cell
 module _ (n s : ℕ) (bytes : List ℕ) where
-  pub cell_in : set (set bytes (cell_size * n) cell_kind) (cell_size * n + 1) s ≡ put_cell n s bytes
-  unfolding put_cell
-  cell_in = refl
-
   pub cell_out : length bytes ≤ cell_size * n → bytes ≡ put_cell n s bytes
   unfolding put_cell
   cell_out h =
@@ -112,32 +100,10 @@ module _ (bytes own : List ℕ) (m base i : ℕ) {s : ℕ} (l : m ≤ length own
       rw (cons_at (take m own) i (omega (arith, size, h)), drop_of_length-le (take m own) {i = i + 1} (omega (arith, size, h)), symbol_is (omega (arith, h)))
 
 -- a path's link
-some_link : (root : ℕ) (l : List ℕ) (base : ℕ) (bytes : List ℕ) → 0 < length l → put_link root l base bytes ≡ put_number (cell_size * cell_of bytes root l + 2) base bytes
+pub some_link : (root : ℕ) (l : List ℕ) (base : ℕ) (bytes : List ℕ) → 0 < length l → put_link root l base bytes ≡ put_number (cell_size * cell_of bytes root l + 2) base bytes
 unfolding put_link
 some_link root [] base bytes h = absurd (omega (arith, h))
 some_link root (s ∷ u) base bytes h = refl
-
-module _ (root : ℕ) (own : List ℕ) (m base : ℕ) (bytes : List ℕ) where
-  pub link_root : m ≡ 0 → bytes ≡ put_link root (take m own) base bytes
-  unfolding put_link
-  link_root e = rw e
-
-  module _ (h : m ≡ 0 → ⊥) (l : m ≤ length own) {n : ℕ} (p : n ≡ cell_of bytes root (take m own)) where
-    link_is : put_link root (take m own) base bytes ≡ put_number (cell_size * n + 2) base bytes
-    link_is = some_link root (take m own) base bytes (omega (arith, length-take-le m own l, h)) ∙ rw p
-
-    pub link_in_lem : {after : List ℕ} → after ≡ put_number (cell_size * n + 2) base bytes → after ≡ put_link root (take m own) base bytes
-    link_in_lem e = e ∙ sym link_is
-
--- the base that a path gets
-module _ (root m : ℕ) (bytes taken : List ℕ) (child : ℕ → Bool) where
-  pub base_root : m ≡ 0 → root ≡ base_for root m bytes taken child
-  unfolding base_for
-  base_root h = rw (eq-eqb m 0 h)
-
-  pub base_found : {r : ℕ} → (m ≡ 0 → ⊥) → r ≡ smallest (serves bytes taken child) 1 (cell_limit - 1) → r ≡ base_for root m bytes taken child
-  unfolding base_for
-  base_found h e = e ∙ rw (ne_eqb m 0 h)
 
 -- two tests that agree on the symbols place alike
 smallest_same : (f g : ℕ → Bool) → ((i : ℕ) → f i ≡ g i) → (k n : ℕ) → smallest f k n ≡ smallest g k n
@@ -197,28 +163,7 @@ module _ (root m : ℕ) (own text : List ℕ) (bytes taken : List ℕ) {mask : L
   unfolding place_at
   path_fits e a b c = placed (path_is ∙ rw (← i, e, c, b, a))
 
--- whether a line opens a path
-not_less : (a m : ℕ) → leb a m ≡ not (ltb m a)
-not_less a m = go (leb a m) refl
-  where
-    go : (z : Bool) → leb a m ≡ z → z ≡ not (ltb m a)
-    go true e = rw (le-ltb m a (leb-true a m e))
-    go false e = rw (lt-ltb m a (leb-false a m e))
-
-module _ (m : ℕ) (above own : List ℕ) {n : ℕ} (p : n ≡ length own) where
-  pub opens_short : n ≤ m → false ≡ opens m above own
-  unfolding opens
-  opens_short h = rw (← p, le-ltb m n h)
-
-  module _ (h : m < n) {k : ℕ} (q : k ≡ common above own) where
-    pub opens_apart : k < m → true ≡ opens m above own
-    unfolding opens
-    opens_apart l = rw (← p, lt-ltb m n h, ← q, lt-leb m k l)
-
-    pub opens_behind : {a : ℕ} → m ≤ k → a ≡ length above → leb a m ≡ opens m above own
-    unfolding opens
-    opens_behind {a} l e = rw (← p, lt-ltb m n h, ← q, le-leb m k l, ← e) (not_less a m)
-
+-- a line that opens a path is long enough for it
 pub opens_long : (m : ℕ) (above own : List ℕ) → opens m above own ≡ true → m ≤ length own
 unfolding opens
 opens_long m above own e = go (ltb m (length own)) refl e
@@ -226,14 +171,6 @@ opens_long m above own e = go (ltb m (length own)) refl e
     go : (z : Bool) → ltb m (length own) ≡ z → (z && not (leb m (common above own) && ltb m (length above))) ≡ true → m ≤ length own
     go true p e = omega (arith, ltb-true m (length own) p)
     go false p e = never e
-
--- a line that opens no path, or one
-module _ (layout : Layout) (bytes taken : List ℕ) {o : Bool} where
-  pub line_kept : o ≡ false → Placed (cond o layout (Fits bytes taken)) true bytes taken
-  line_kept e = placed (rw e)
-
-  pub line_placed : {r : Bool} {exit last : List ℕ} → o ≡ true → Placed layout r exit last → Placed (cond o layout (Fits bytes taken)) r exit last
-  line_placed e p = rw e p
 
 -- what is full stays full
 length_full : (root m : ℕ) (above : List ℕ) (ps : List Pattern) → place_length root m above ps Full ≡ Full

@@ -55,6 +55,7 @@ fn first_marked(mask: &[u8; patterns::MASK_SIZE]) -> u8
 }
 
 // Does a base serve: no path has it, and the cells it needs are free? One symbol's cell is tried first, which decides most bases.
+#[tactic(auto, unfolding(fit::specs::Cells::serves), using(crate::proofs::Laws::serves_used))]
 fn is_serving(
     cells: &[u8; table::CELL_ROOM],
     taken: &[u8; base::CELL_LIMIT],
@@ -75,6 +76,7 @@ fn is_serving(
 }
 
 // The smallest base from 1 up that serves, or the limit of cells.
+#[tactic(auto, using(crate::proofs::Laws::smallest_here, crate::proofs::Laws::smallest_on, crate::proofs::Laws::smallest_end))]
 fn find_base(
     cells: &[u8; table::CELL_ROOM],
     taken: &[u8; base::CELL_LIMIT],
@@ -101,6 +103,7 @@ fn is_inside(mask: &[u8; patterns::MASK_SIZE], base: u16) -> bool
 }
 
 // A cell's kind and symbol, where there is such a cell.
+#[tactic(auto, unfolding(fit::specs::Cells::put_cell), using(crate::proofs::Laws::cell_out))]
 fn put_cell(cells: &mut [u8; table::CELL_ROOM], n: usize, symbol: u8)
     requires { n < cell_numbers }
     ensures { cells.new ≡ put_cell n symbol cells.old }
@@ -113,6 +116,7 @@ fn put_cell(cells: &mut [u8; table::CELL_ROOM], n: usize, symbol: u8)
 }
 
 // The cells of the marked symbols at a base.
+#[tactic(auto, using(crate::proofs::Laws::cells_marked, crate::proofs::Laws::cells_other, crate::proofs::Laws::cells_end))]
 fn put_cells(cells: &mut [u8; table::CELL_ROOM], mask: &[u8; patterns::MASK_SIZE], base: u16)
     ensures { cells.new ≡ put_cells (marked mask.now) base 1 symbol_limit cells.old }
 {
@@ -125,6 +129,7 @@ fn put_cells(cells: &mut [u8; table::CELL_ROOM], mask: &[u8; patterns::MASK_SIZE
 }
 
 // The number of the cell that the first m symbols of a line end in, walked from the root's base.
+#[tactic(auto, using(crate::proofs::Laws::cell_on, crate::proofs::Laws::cell_last))]
 pub fn cell_of(cells: &[u8], root: u16, own: &[u8], m: usize) -> usize
     requires { (0 < m) × (m ≤ length (symbols_of own.now)) }
     ensures value { result ≡ cell_of cells.now root (take m (symbols_of own.now)) }
@@ -148,6 +153,7 @@ struct Path<'a> {
 }
 
 // A path's base as the link of its last cell. The root has none.
+#[tactic(auto, unfolding(fit::specs::Cells::put_link), using(crate::proofs::Laws::some_link))]
 fn put_link(cells: &mut [u8; table::CELL_ROOM], root: u16, path: &Path, base: u16)
     requires { path.now.m ≤ length (symbols_of path.now.own.now) }
     ensures { cells.new ≡ put_link root (take path.now.m (symbols_of path.now.own.now)) base cells.old }
@@ -160,6 +166,7 @@ fn put_link(cells: &mut [u8; table::CELL_ROOM], root: u16, path: &Path, base: u1
 }
 
 // The base that a path of m symbols gets: the root's is given.
+#[tactic(auto, unfolding(fit::specs::Cells::base_for))]
 fn base_for(
     root: u16,
     m: usize,
@@ -186,6 +193,7 @@ fn take_base(taken: &mut [u8; base::CELL_LIMIT], base: u16)
 }
 
 // A path gets its base.
+#[tactic(auto, using(crate::proofs::Laws::path_full, crate::proofs::Laws::path_fits))]
 fn place_path(
     cells: &mut [u8; table::CELL_ROOM],
     taken: &mut [u8; base::CELL_LIMIT],
@@ -208,6 +216,7 @@ fn place_path(
 }
 
 // Does a line go on behind its first m symbols where the one above it does not behind the same?
+#[tactic(auto, unfolding(patterns::specs::Next::opens))]
 fn is_opening(m: usize, above: &[u8], own: &[u8]) -> bool
     ensures { result ≡ opens m (symbols_of above.now) (symbols_of own.now) }
 {
@@ -221,6 +230,7 @@ fn is_opening(m: usize, above: &[u8], own: &[u8]) -> bool
 }
 
 // A path is placed where its line opens it, below the line above.
+#[tactic(auto, using(crate::proofs::Laws::opens_long))]
 fn place_line(
     cells: &mut [u8; table::CELL_ROOM],
     taken: &mut [u8; base::CELL_LIMIT],
@@ -237,6 +247,7 @@ fn place_line(
 }
 
 // All paths of m symbols, in the text's order.
+#[tactic(auto, using(crate::proofs::Laws::placed, crate::proofs::Laws::refused, crate::proofs::Laws::some_left, crate::proofs::Laws::none_left, crate::proofs::Laws::length_begin, crate::proofs::Laws::length_stop, crate::proofs::Laws::length_on, crate::proofs::Laws::length_done, lines::proofs::Laws::line_starts, lines::proofs::Laws::line_ends))]
 fn place_length(
     cells: &mut [u8; table::CELL_ROOM],
     taken: &mut [u8; base::CELL_LIMIT],
@@ -263,6 +274,7 @@ fn place_length(
 
 // All paths of a text placed into the layout that the two rooms hold, by length, the root with the base that is given.
 // Where they don't fit, what the two rooms hold is left open.
+#[tactic(auto, using(crate::proofs::Laws::placed, crate::proofs::Laws::refused, crate::proofs::Laws::lengths_stop, crate::proofs::Laws::lengths_on, crate::proofs::Laws::lengths_done))]
 pub fn place_all(
     cells: &mut [u8; table::CELL_ROOM],
     taken: &mut [u8; base::CELL_LIMIT],

@@ -10,9 +10,6 @@ use Rattle.packer.proofs.fill.Goals as goal
 pub returns-then-not-place_all : goal.returns-then-not-place_all
 returns-then-not-place_all c = record { text_value = fit_full (patterns_of c.args.text.now) c.requires.0 c.requires.1 refl (c.place_all.ensures.full c.if-not-place_all.true); bounded = search rules }
 
-pub put_outputs-requires : goal.put_outputs-requires
-put_outputs-requires c = (search rules, c.requires.2)
-
 pub returns-in_err-entries-clause-text_value : goal.returns-in_err-entries-clause-text_value
 returns-in_err-entries-clause-text_value c = rw c.from_residual.ensures (fit_over (patterns_of c.args.text.now) c.requires.0 c.requires.1 refl (c.place_all.ensures.fits c.if-not-place_all.false) c.used_cells-count.ensures.value (c.put_outputs.ensures.count_value ∙ ap (as_outputs _ _) c.in_err-entries.was))
 

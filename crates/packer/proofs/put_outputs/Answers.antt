@@ -1,16 +1,11 @@
 use Prim.Native.Nat.{◌≤◌}
-use Rattle.std.proofs.Common.{rules, tests, arith, ◌≡◌, refl, ◌∙◌, ap}
+use Rattle.std.proofs.Common.{rules, tests, arith, refl, ◌∙◌, ap}
 use mathlib.Core.Path.{subst}
 use Rattle.base.specs.Limits.{entry_limit}
 use Rattle.lines.proofs.Splits.{cut_split}
 use Rattle.entering.specs.Post.{as_entries, count_of}
-use Rattle.packer.proofs.Laws.{shaped_start, outputs_start, outputs_end, line_shaped, shaped_on, outputs_many, outputs_on}
+use Rattle.packer.proofs.Laws.{line_shaped, shaped_on, outputs_many, outputs_on}
 use Rattle.packer.proofs.put_outputs.Goals as goal
-
-pub loop-line-init : goal.loop-line-init
-loop-line-init c =
-    let e : c.into_iter-line-iterator.result.rest.now ≡ c.args.text.now = search rules in
-    (search rules, shaped_start _ c.requires.1 e, outputs_start _ _ _ e)
 
 pub overflow_cast-m : goal.overflow_cast-m
 overflow_cast-m c = omega (arith, c.symbol_count-m.ensures, line_shaped _ _ _ (cut_split _ _ _ _ c.in-Some.ensures.steps (λ b r q k. search (rules, tests))) c.loop-line.invariant.1)
@@ -31,6 +26,3 @@ loop-line-preserved c =
       shaped_on _ _ _ e c.loop-line.invariant.1,
       c.loop-line.invariant.2 ∙ outputs_on _ _ _ e _ _ _ _ _ c.symbol_count-m.ensures (c.enter_levels.ensures.count_value ∙ ap (as_entries _) c.in_ok-step.was) refl c.put_output.ensures,
     )
-
-pub returns : goal.returns
-returns c = record { count_value = c.loop-line.invariant.2 ∙ outputs_end _ _ _ c.in-None.ensures.steps.0; result_bound = c.loop-line.invariant.0 }

@@ -1,14 +1,11 @@
 use borrow.Author.Rules.{rules}
 use Prim.Native.Nat.{suc}
-use mathlib.Core.Path.{refl, sym, ◌∙◌}
+use mathlib.Core.Path.{sym, ◌∙◌}
 use native.Mathlib.Omega.{arith}
 use Rattle.base.specs.Limits.{symbol_limit}
 use Rattle.base.proofs.All.{all_pass, all_fail, all_end}
 use Rattle.placing.proofs.Laws.{when_other, when_marked}
 use Rattle.placing.proofs.all_marked.Goals as goal
-
-pub loop-symbol-init : goal.loop-symbol-init
-loop-symbol-init g c = (search rules, λ test says. refl)
 
 pub loop-symbol-preserved-then-mask-symbol-ne1 : goal.loop-symbol-preserved-then-mask-symbol-ne1
 loop-symbol-preserved-then-mask-symbol-ne1 g c = (search rules, λ test says. c.loop-symbol.invariant.1 test says ∙ all_pass _ _ (suc symbol_limit) (omega arith) (sym (when_other _ _ c.if-mask-symbol-ne1.true)))
