@@ -7,24 +7,10 @@ use native.Mathlib.Numerals.{add-one}
 use native.Mathlib.Omega.{arith}
 use borrow.Author.Tests.{lt-ltb, le-ltb, eq-eqb, ne_eqb}
 use lib.Dec.{eqb}
-use lib.ListN.{get_or, set}
+use lib.ListN.{get_or}
 use Rattle.base.specs.Limits.{entry_limit}
-use Rattle.table.specs.Table.{entry_kind, entry_size, number_at, put_number}
+use Rattle.table.specs.Table.{entry_size}
 use Rattle.fit.specs.Entries.{Entries, TooMany, Made, holds, find_entry, put_entry, enter_at, enter, enter_levels}
-
--- does an entry hold three numbers?
-module _ (bytes : List ℕ) (at d l next : ℕ) where
-  pub other_distance : (get_or bytes (at + 1) 0 ≡ d → ⊥) → false ≡ holds bytes at d l next
-  unfolding holds
-  other_distance h = rw (ne_eqb (get_or bytes (at + 1) 0) d h)
-
-  pub other_level : get_or bytes (at + 1) 0 ≡ d → (get_or bytes (at + 2) 0 ≡ l → ⊥) → false ≡ holds bytes at d l next
-  unfolding holds
-  other_level h k = rw (eq-eqb (get_or bytes (at + 1) 0) d h, ne_eqb (get_or bytes (at + 2) 0) l k)
-
-  pub next_decides : get_or bytes (at + 1) 0 ≡ d → get_or bytes (at + 2) 0 ≡ l → {n : ℕ} → n ≡ number_at bytes (at + 3) → eqb n next ≡ holds bytes at d l next
-  unfolding holds
-  next_decides h k e = rw (eq-eqb (get_or bytes (at + 1) 0) d h, eq-eqb (get_or bytes (at + 2) 0) l k, e)
 
 -- the search for an equal entry
 pub find_start : (bytes : List ℕ) (d l next count : ℕ) → find_entry bytes d l next 1 count ≡ find_entry bytes d l next 1 (suc count - 1)
@@ -44,10 +30,6 @@ module _ (bytes : List ℕ) (d l next count k : ℕ) where
   pub find_none : count < k → find_entry bytes d l next k (suc count - k) ≡ 0
   unfolding find_entry
   find_none h = let e : suc count - k ≡ 0 = omega arith in rw e
-
-pub entry_put : (bytes : List ℕ) (at d l next : ℕ) {after : List ℕ} → after ≡ put_number (at + 3) next (set (set (set bytes at entry_kind) (at + 1) d) (at + 2) l) → after ≡ put_entry bytes at d l next
-unfolding put_entry
-entry_put bytes at d l next e = e
 
 -- one entry entered
 module _ (bytes : List ℕ) (count d l next : ℕ) {found : ℕ} (p : found ≡ find_entry bytes d l next 1 count) where

@@ -8,6 +8,8 @@ ghost use Rattle.table.specs.Table.{entry_size, entry_room};
 ghost use Rattle.fit.specs.Entries as fit;
 ghost use Rattle.entering.specs.Post.{as_entries, count_of};
 
+use table::Entry;
+
 // How many entries there are now, and the number of the one made or found last.
 #[derive(Clone, Copy)]
 pub struct Made {
@@ -15,62 +17,59 @@ pub struct Made {
     pub last: u16,
 }
 
-// Does the entry at a place hold these three numbers?
-fn is_entry(bytes: &[u8], at: usize, distance: u8, level: u8, next: u16) -> bool
-    requires { at + entry_size ≤ length bytes.now }
-    ensures { result ≡ fit.holds bytes.now at distance level next }
+// Is the entry at a place this one? Its kind is not asked for: whatever entering has put there is an entry.
+#[tactic(auto, unfolding(fit::specs::Entries::holds))]
+fn is_entry(bytes: &[u8; table::ENTRY_ROOM], at: usize, entry: Entry) -> bool
+    requires { at + entry_size ≤ entry_room }
+    ensures { result ≡ fit.holds bytes.now at entry.distance entry.level entry.next }
 {
-    if bytes[at + 1] != distance {
-        return false;
-    }
-    if bytes[at + 2] != level {
-        return false;
-    }
-    table::number_at(bytes, at + 3) == next
+    let there = Entry {
+        distance: bytes[at + 1],
+        level: bytes[at + 2],
+        next: table::number_at(bytes, at + 3),
+    };
+    there == entry
 }
 
-// The number of the first entry that holds them. No entry has number 0.
-fn find_entry(bytes: &[u8], count: u16, distance: u8, level: u8, next: u16) -> Option<u16>
-    requires { (entry_size * count ≤ length bytes.now) × (count ≤ entry_limit) }
-    ensures number { unwrap_or result 0 ≡ fit.find_entry bytes.now distance level next 1 count }
+// The number of the first entry that is this one. No entry has number 0.
+#[tactic(auto, using(crate::proofs::Laws::find_start, crate::proofs::Laws::find_here, crate::proofs::Laws::find_on, crate::proofs::Laws::find_none))]
+fn find_entry(bytes: &[u8; table::ENTRY_ROOM], count: u16, entry: Entry) -> Option<u16>
+    requires { count ≤ entry_limit }
+    ensures number { unwrap_or result 0 ≡ fit.find_entry bytes.now entry.distance entry.level entry.next 1 count }
     ensures counted { IfSome result (λ k. 0 < k) }
 {
     for k in 1..count + 1 {
         let at = table::ENTRY_SIZE * (k as usize - 1);
-        if is_entry(bytes, at, distance, level, next) {
+        if is_entry(bytes, at, entry) {
             return Some(k);
         }
     }
     None
 }
 
-fn put_entry(bytes: &mut [u8], at: usize, distance: u8, level: u8, next: u16)
-    requires { at + entry_size ≤ length bytes.old }
-    ensures { bytes.new ≡ fit.put_entry bytes.old at distance level next }
+#[tactic(auto, unfolding(fit::specs::Entries::put_entry))]
+fn put_entry(bytes: &mut [u8; table::ENTRY_ROOM], at: usize, entry: Entry)
+    requires { at + entry_size ≤ entry_room }
+    ensures { bytes.new ≡ fit.put_entry bytes.old at entry.distance entry.level entry.next }
 {
     bytes[at] = table::ENTRY_KIND;
-    bytes[at + 1] = distance;
-    bytes[at + 2] = level;
-    table::put_number(bytes, at + 3, next);
+    bytes[at + 1] = entry.distance;
+    bytes[at + 2] = entry.level;
+    table::put_number(bytes, at + 3, entry.next);
 }
 
 // One entry: an equal earlier one is used again, else one more is made; nothing where there are too many.
-fn enter(bytes: &mut [u8], count: u16, next: u16, distance: u8, level: u8) -> Option<Made>
-    requires { (length bytes.old ≡ entry_room) × (count ≤ entry_limit) }
-    ensures next_value { fit.enter distance level (fit.Made bytes.old count next) ≡ as_entries bytes.new result }
+#[tactic(auto, using(crate::proofs::Laws::enter_again, crate::proofs::Laws::enter_new, crate::proofs::Laws::enter_over))]
+fn enter(bytes: &mut [u8; table::ENTRY_ROOM], count: u16, entry: Entry) -> Option<Made>
+    requires { count ≤ entry_limit }
+    ensures next_value { fit.enter entry.distance entry.level (fit.Made bytes.old count entry.next) ≡ as_entries bytes.new result }
     ensures result_bound { count_of result ≤ entry_limit }
 {
-    if let Some(last) = find_entry(bytes, count, distance, level, next) {
+    if let Some(last) = find_entry(bytes, count, entry) {
         return Some(Made { count, last });
     }
     if (count as usize) < base::ENTRY_LIMIT {
-        put_entry(
-            bytes,
-            table::ENTRY_SIZE * (count as usize),
-            distance,
-            level,
-            next,
-        );
+        put_entry(bytes, table::ENTRY_SIZE * (count as usize), entry);
         let more = count + 1;
         return Some(Made {
             count: more,
@@ -81,12 +80,17 @@ fn enter(bytes: &mut [u8], count: u16, next: u16, distance: u8, level: u8) -> Op
 }
 
 // The chain of a pattern line of m symbols: its nonzero levels from the smallest distance up. Where there are too
-// many entries, what the room holds is left open; its size stays.
-pub fn enter_levels(bytes: &mut [u8], count: u16, line: &[u8], m: u8) -> Option<Made>
-    requires { (length bytes.old ≡ entry_room) × (count ≤ entry_limit) × (m ≤ pattern_limit) }
+// many entries, what the room holds is left open.
+#[tactic(auto, using(crate::proofs::Laws::levels_start, crate::proofs::Laws::levels_over, crate::proofs::Laws::levels_skip, crate::proofs::Laws::levels_enter, crate::proofs::Laws::levels_end))]
+pub fn enter_levels(
+    bytes: &mut [u8; table::ENTRY_ROOM],
+    count: u16,
+    line: &[u8],
+    m: u8,
+) -> Option<Made>
+    requires { (count ≤ entry_limit) × (m ≤ pattern_limit) }
     ensures count_value { fit.enter_levels (levels_from 0 line.now) m 0 (suc m) (fit.Made bytes.old count 0) ≡ as_entries bytes.new result }
     ensures result_bound { count_of result ≤ entry_limit }
-    ensures left { length bytes.new ≡ entry_room }
 {
     let mut made = count;
     let mut last: u16 = 0;
@@ -95,7 +99,12 @@ pub fn enter_levels(bytes: &mut [u8], count: u16, line: &[u8], m: u8) -> Option<
         if level == 0 {
             continue;
         }
-        let step = enter(bytes, made, last, distance, level)?;
+        let entry = Entry {
+            distance,
+            level,
+            next: last,
+        };
+        let step = enter(bytes, made, entry)?;
         made = step.count;
         last = step.last;
     }

@@ -7,7 +7,7 @@ use native.Mathlib.Numerals.{add-one}
 use native.Mathlib.Omega.{arith}
 use borrow.Author.Tests.{eq-eqb, ne_eqb, lt-ltb, le-ltb}
 use lib.Dec.{eqb}
-use lib.ListN.{length, get_or, set, take, drop, replicate, length-append, length-drop, length-replicate, drop_of_length-le}
+use lib.ListN.{length, get_or, set, take, drop, replicate, length-append, length-drop}
 use lib.Seq.{length-take-le, get_or-drop, drop-drop, drop_at, take-add, take-take, take-append-le, take-length, paste, take-paste, drop-paste}
 use Rattle.base.specs.Limits.{pattern_limit, cell_limit, entry_limit, pack_room}
 use Rattle.base.specs.declared.Ground.{Ground}
@@ -16,8 +16,7 @@ use Rattle.base.specs.declared.Ground.TheVariants.{PackRoomShort, NoFit}
 use Rattle.rooms.specs.Rooms.{filled}
 use Rattle.rooms.proofs.Laws.{filled_same, cleared_take, cleared_drop}
 use Rattle.words.specs.Symbols.{symbols_of}
-use Rattle.lines.specs.Lines.{cut, line_length}
-use Rattle.lines.proofs.Laws.{cut_line}
+use Rattle.lines.specs.Lines.{cut}
 use Rattle.lists.specs.Lists.{judge_patterns}
 use Rattle.liang.specs.Patterns.{Pattern, levels_from, pattern_of, patterns_of}
 use Rattle.table.specs.Table.{cell_kind, head_size, cell_size, entry_size, cell_room, entry_room, root_base, put_number}
@@ -26,7 +25,6 @@ use Rattle.patterns.proofs.Good.{good_patterns}
 use Rattle.fit.specs.Cells.{Full, Fits, is_free, cell_of, place_list, layout_of, used_from}
 use Rattle.fit.specs.Entries.{Entries, TooMany, Made, Outputs, Over, Out, enter_levels, enter_pattern, put_output, output_of, outputs_of, empty_entries}
 use Rattle.fit.specs.Table.{Fit, NoRoom, Packed, put_kinds, bytes_of, finish, fit_layout, first_fit}
-use Rattle.placing.specs.Post.{Sized}
 use Rattle.packer.specs.Pack.{Packing, judge_pack, packed_after, Lays, Answered}
 use Rattle.table.specs.Records.{two_bytes, head_bytes}
 use Rattle.packer.specs.Post.{table_of}
@@ -74,53 +72,52 @@ output_put root cells symbols m output p q e = e ∙ rw (p, q, take-length symbo
 pub AllShaped : List Pattern → Type 0
 AllShaped patterns = (i : ℕ) → i < length patterns → Shaped (nth patterns i)
 
-pub shaped_start : (text : List ℕ) → judge_patterns text ≡ Ok tt → AllShaped (map pattern_of (cut (drop 0 text)))
-unfolding AllShaped patterns_of
-shaped_start text e = good_patterns text e
+pub shaped_start : (text : List ℕ) → judge_patterns text ≡ Ok tt → {rest : List ℕ} → rest ≡ text → AllShaped (patterns_of rest)
+unfolding AllShaped
+shaped_start text e q = rw q (good_patterns text e)
 
 outputs_over : (root : ℕ) (patterns : List Pattern) → outputs_of root patterns Over ≡ Over
 unfolding outputs_of output_of
 outputs_over root [] = refl
 outputs_over root (p ∷ rest) = outputs_over root rest
 
-pub outputs_start : (root : ℕ) (text : List ℕ) (made : Outputs) → outputs_of root (patterns_of text) made ≡ outputs_of root (map pattern_of (cut (drop 0 text))) made
-unfolding patterns_of
-outputs_start root text made = refl
+pub outputs_start : (root : ℕ) (text : List ℕ) (made : Outputs) {rest : List ℕ} → rest ≡ text → outputs_of root (patterns_of text) made ≡ outputs_of root (patterns_of rest) made
+outputs_start root text made q = rw q
 
-pub outputs_end : (root : ℕ) (w : List ℕ) (at : ℕ) (made : Outputs) → length w ≤ at → outputs_of root (map pattern_of (cut (drop at w))) made ≡ made
-unfolding outputs_of cut
-outputs_end root w at made h = rw (drop_of_length-le w h)
+pub outputs_end : (root : ℕ) (rest : List ℕ) (made : Outputs) → length rest ≡ 0 → outputs_of root (patterns_of rest) made ≡ made
+unfolding outputs_of patterns_of cut
+outputs_end root [] made h = refl
+outputs_end root (b ∷ t) made h = absurd (omega arith)
 
-module _ (w : List ℕ) (at e : ℕ) (h : at < length w) (q : e ≡ at + line_length (drop at w)) where
-  line_cut : map pattern_of (cut (drop at w)) ≡ pattern_of (take (e - at) (drop at w)) ∷ map pattern_of (cut (drop e w))
-  line_cut = ap (map pattern_of) (cut_line w at e h q)
+module _ (text line rest : List ℕ) (e : cut text ≡ line ∷ cut rest) where
+  line_first : patterns_of text ≡ pattern_of line ∷ patterns_of rest
+  unfolding patterns_of
+  line_first = ap (map pattern_of) e
 
-  shaped_cut : AllShaped (map pattern_of (cut (drop at w))) → AllShaped (pattern_of (take (e - at) (drop at w)) ∷ map pattern_of (cut (drop e w)))
-  shaped_cut s = rw line_cut at s
+  shaped_first : AllShaped (patterns_of text) → AllShaped (pattern_of line ∷ patterns_of rest)
+  shaped_first s = rw line_first at s
 
-  pub line_shaped : AllShaped (map pattern_of (cut (drop at w))) → (0 < length (symbols_of (take (e - at) (drop at w)))) × (length (symbols_of (take (e - at) (drop at w))) ≤ pattern_limit)
+  pub line_shaped : AllShaped (patterns_of text) → (0 < length (symbols_of line)) × (length (symbols_of line) ≤ pattern_limit)
   unfolding AllShaped pattern_of
-  line_shaped s = let p = shaped_cut s 0 (omega arith) in (p.some, p.short)
+  line_shaped s = let p = shaped_first s 0 (omega arith) in (p.some, p.short)
 
-  pub shaped_on : AllShaped (map pattern_of (cut (drop at w))) → AllShaped (map pattern_of (cut (drop e w)))
+  pub shaped_on : AllShaped (patterns_of text) → AllShaped (patterns_of rest)
   unfolding AllShaped
-  shaped_on s i k = shaped_cut s (suc i) (omega arith)
+  shaped_on s i k = shaped_first s (suc i) (omega arith)
 
-  module _ (root : ℕ) (cells made : List ℕ) (count m : ℕ) (n : m ≡ length (symbols_of (take (e - at) (drop at w)))) {step : Entries}
-      (l : enter_levels (levels_from 0 (take (e - at) (drop at w))) m 0 (suc m) (Made made count 0) ≡ step) where
-    outputs_turn : outputs_of root (map pattern_of (cut (drop at w))) (Out cells made count) ≡ outputs_of root (map pattern_of (cut (drop e w))) (put_output root (pattern_of (take (e - at) (drop at w))) cells step)
+  module _ (root : ℕ) (cells made : List ℕ) (count m : ℕ) (n : m ≡ length (symbols_of line)) {step : Entries} (l : enter_levels (levels_from 0 line) m 0 (suc m) (Made made count 0) ≡ step) where
+    outputs_turn : outputs_of root (patterns_of text) (Out cells made count) ≡ outputs_of root (patterns_of rest) (put_output root (pattern_of line) cells step)
     unfolding outputs_of output_of enter_pattern pattern_of
     outputs_turn =
-        ap (λ (ps : List Pattern). outputs_of root ps (Out cells made count)) line_cut
-        ∙ ap (λ (s : Entries). outputs_of root (map pattern_of (cut (drop e w))) (put_output root (pattern_of (take (e - at) (drop at w))) cells s))
-        (ap (λ (k : ℕ). enter_levels (levels_from 0 (take (e - at) (drop at w))) k 0 (suc k) (Made made count 0)) (sym n) ∙ l)
+        ap (λ (ps : List Pattern). outputs_of root ps (Out cells made count)) line_first
+        ∙ ap (λ (s : Entries). outputs_of root (patterns_of rest) (put_output root (pattern_of line) cells s)) (ap (λ (k : ℕ). enter_levels (levels_from 0 line) k 0 (suc k) (Made made count 0)) (sym n) ∙ l)
 
-    pub outputs_many : step ≡ TooMany → outputs_of root (map pattern_of (cut (drop at w))) (Out cells made count) ≡ Over
+    pub outputs_many : step ≡ TooMany → outputs_of root (patterns_of text) (Out cells made count) ≡ Over
     unfolding put_output
-    outputs_many z = outputs_turn ∙ rw z (outputs_over root (map pattern_of (cut (drop e w))))
+    outputs_many z = outputs_turn ∙ rw z (outputs_over root (patterns_of rest))
 
-    pub outputs_on : {after bytes : List ℕ} {more output : ℕ} → step ≡ Made bytes more output → after ≡ put_number (cell_size * cell_of cells root (symbols_of (take (e - at) (drop at w))) + 4) output cells
-        → outputs_of root (map pattern_of (cut (drop at w))) (Out cells made count) ≡ outputs_of root (map pattern_of (cut (drop e w))) (Out after bytes more)
+    pub outputs_on : {after bytes : List ℕ} {more output : ℕ} → step ≡ Made bytes more output → after ≡ put_number (cell_size * cell_of cells root (symbols_of line) + 4) output cells
+        → outputs_of root (patterns_of text) (Out cells made count) ≡ outputs_of root (patterns_of rest) (Out after bytes more)
     unfolding put_output pattern_of
     outputs_on z a = outputs_turn ∙ rw (z, ← a)
 
@@ -143,13 +140,6 @@ module _ (patterns : List Pattern) {cells made taken : List ℕ} (p : cells ≡ 
         → first_fit patterns ≡ Packed (head_bytes c e ++ (take (cell_size * c) after ++ take (entry_size * e) made'))
     unfolding first_fit fit_layout finish bytes_of
     fit_laid o k = rw (layout_is, f, ← q, o, ← u, ← k)
-
--- the rooms that placing starts on, and what it says of them
-pub size_kept : (size : ℕ) {before : List ℕ} {n : ℕ} → before ≡ replicate size 0 → n ≡ length before → n ≡ size
-size_kept size p k = k ∙ ap length p ∙ length-replicate {A = ℕ} size 0
-
-pub sized_start : {cells taken : List ℕ} → cells ≡ replicate cell_room 0 → length taken ≡ cell_limit → Sized cells taken
-sized_start p t = record { of_cells = size_kept cell_room p refl; of_bases = t }
 
 -- the table put together in the room
 module _ (c e : ℕ) (room made : List ℕ) (p : pack_room ≤ length room) (q : length made ≡ entry_room) (h : c ≤ cell_limit) (k : e ≤ entry_limit) where

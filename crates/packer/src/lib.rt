@@ -25,8 +25,8 @@ pub struct Laid {
 }
 
 // The highest used cell + 1, or 1 if none is.
-fn used_cells(cells: &[u8]) -> usize
-    requires { length cells.now ≡ cell_room }
+#[tactic(auto, using(crate::proofs::Laws::used_here, crate::proofs::Laws::used_on, crate::proofs::Laws::used_end))]
+fn used_cells(cells: &[u8; table::CELL_ROOM]) -> usize
     ensures value { result ≡ used_from cells.now 0 cell_limit 1 }
     ensures lower_bound { (1 ≤ result) × (result ≤ cell_limit) }
 {
@@ -42,8 +42,9 @@ fn used_cells(cells: &[u8]) -> usize
 }
 
 // The kinds of the first cells.
-fn put_kinds(cells: &mut [u8], count: usize)
-    requires { (cell_size * count ≤ length cells.old) × (count ≤ cell_limit) }
+#[tactic(auto, using(crate::proofs::Laws::kinds_turn, crate::proofs::Laws::kinds_end))]
+fn put_kinds(cells: &mut [u8; table::CELL_ROOM], count: usize)
+    requires { count ≤ cell_limit }
     ensures { cells.new ≡ put_kinds count cells.old }
 {
     for n in (0..count).rev() {
@@ -52,7 +53,8 @@ fn put_kinds(cells: &mut [u8], count: usize)
 }
 
 // The output of a pattern line of m symbols, in the cell that it ends in from the root's base.
-fn put_output(cells: &mut [u8], root: u16, line: &[u8], m: u8, output: u16)
+#[tactic(auto, using(crate::proofs::Laws::output_put))]
+fn put_output(cells: &mut [u8; table::CELL_ROOM], root: u16, line: &[u8], m: u8, output: u16)
     requires { (0 < m) × (m ≡ length (symbols_of line.now)) }
     ensures { cells.new ≡ put_number (cell_size * cell_of cells.old root (symbols_of line.now) + 4) output cells.old }
 {
@@ -62,27 +64,34 @@ fn put_output(cells: &mut [u8], root: u16, line: &[u8], m: u8, output: u16)
 
 // The outputs of every pattern of a good text, walked from the root's base, and the entries behind them. The count says how many
 // entries are there before; nothing where there are too many.
-fn put_outputs(cells: &mut [u8], made: &mut [u8], count: u16, root: u16, text: &[u8]) -> Option<u16>
-    requires { (length made.old ≡ entry_room) × (count ≤ entry_limit) × (judge_patterns text.now ≡ Ok tt) }
+#[tactic(auto, using(crate::proofs::Laws::shaped_start, crate::proofs::Laws::outputs_start, crate::proofs::Laws::outputs_end))]
+fn put_outputs(
+    cells: &mut [u8; table::CELL_ROOM],
+    made: &mut [u8; table::ENTRY_ROOM],
+    count: u16,
+    root: u16,
+    text: &[u8],
+) -> Option<u16>
+    requires { (count ≤ entry_limit) × (judge_patterns text.now ≡ Ok tt) }
     ensures count_value { outputs_of root (patterns_of text.now) (fit.Out cells.old made.old count) ≡ as_outputs cells.new made.new result }
     ensures result_bound { entries_in result ≤ entry_limit }
 {
     let mut entries = count;
-    let mut at = 0;
-    // `lines::line_end` says where the next line begins; nothing is counted.
-    while at < text.len() {
-        let end = lines::line_end(text, at);
-        let m = patterns::symbol_count(&text[at..end]) as u8;
-        let step = entering::enter_levels(made, entries, &text[at..end], m)?;
-        put_output(cells, root, &text[at..end], m, step.last);
+    for line in text.split_inclusive(|b| *b == words::LINE_FEED) {
+        let m = patterns::symbol_count(line) as u8;
+        let step = entering::enter_levels(made, entries, line, m)?;
+        put_output(cells, root, line, m, step.last);
         entries = step.count;
-        at = end;
     }
     Some(entries)
 }
 
 // The layout of a good text, in cells and entries that are zero before; nothing where it has too many of either.
-fn fill(cells: &mut [u8], made: &mut [u8], text: &[u8]) -> Option<Laid>
+fn fill(
+    cells: &mut [u8; table::CELL_ROOM],
+    made: &mut [u8; table::ENTRY_ROOM],
+    text: &[u8],
+) -> Option<Laid>
     requires { (cells.old ≡ replicate cell_room 0) × (made.old ≡ empty_entries) × (judge_patterns text.now ≡ Ok tt) }
     ensures text_value { first_fit (patterns_of text.now) ≡ as_fit cells.new made.new result }
     ensures bounded { Bounded result }
@@ -100,9 +109,19 @@ fn fill(cells: &mut [u8], made: &mut [u8], text: &[u8]) -> Option<Laid>
     })
 }
 
+// The same in cells that are a part of a room.
+fn fill_part(cells: &mut [u8], made: &mut [u8; table::ENTRY_ROOM], text: &[u8]) -> Option<Laid>
+    requires { (cells.old ≡ replicate cell_room 0) × (made.old ≡ empty_entries) × (judge_patterns text.now ≡ Ok tt) }
+    ensures text_value { first_fit (patterns_of text.now) ≡ as_fit cells.new made.new result }
+    ensures bounded { Bounded result }
+{
+    let cells = cells.as_mut_array().unwrap();
+    fill(cells, made, text)
+}
+
 // The entries behind the cells, zeros behind the entries, and the head: the table's length.
-fn finish(room: &mut [u8], made: &[u8], cells: u16, entries: u16) -> usize
-    requires { (pack_room ≤ length room.old) × (length made.now ≡ entry_room) × (cells ≤ cell_limit) × (entries ≤ entry_limit) }
+fn finish(room: &mut [u8], made: &[u8; table::ENTRY_ROOM], cells: u16, entries: u16) -> usize
+    requires { (pack_room ≤ length room.old) × (cells ≤ cell_limit) × (entries ≤ entry_limit) }
     ensures value { result ≡ length (table_of cells entries (drop head_size room.old) made.now) }
     ensures room_after { room.new ≡ filled pack_room (table_of cells entries (drop head_size room.old) made.now) room.old }
 {
@@ -115,12 +134,13 @@ fn finish(room: &mut [u8], made: &[u8], cells: u16, entries: u16) -> usize
 }
 
 // The first-fit table of a good text, in a room that is zero where a table may stand.
+#[tactic(auto, using(crate::proofs::Laws::filled_length, crate::proofs::Laws::filled_holds))]
 fn lay(room: &mut [u8], text: &[u8]) -> Result<usize, Ground>
     requires { (pack_room ≤ length room.old) × (take pack_room room.old ≡ replicate pack_room 0) × (judge_patterns text.now ≡ Ok tt) }
     ensures { Lays text.now room.old result room.new }
 {
     let mut made = [0u8; table::ENTRY_ROOM];
-    let filled = fill(
+    let filled = fill_part(
         &mut room[table::HEAD_SIZE..table::HEAD_SIZE + table::CELL_ROOM],
         &mut made,
         text,

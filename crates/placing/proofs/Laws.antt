@@ -3,11 +3,12 @@ use Prim.Native.Nat.{ℕ, zero, suc, ◌+◌, ◌*◌, ◌-◌, ◌≤◌, ◌<�
 use mathlib.Core.Bool.{Bool, true, false, cond, not, ◌&&◌, ◌||◌}
 use mathlib.Core.List.{List, [], ◌∷◌, map}
 use mathlib.Core.Path.{◌≡◌, refl, sym, ◌∙◌, ap}
+use native.Mathlib.Nat.{sub-zero}
 use native.Mathlib.Numerals.{add-one}
 use native.Mathlib.Omega.{arith}
-use borrow.Author.Tests.{lt-leb, le-leb, lt-ltb, le-ltb, eq-eqb, ne_eqb, ltb-true, leb-true, leb-false}
+use borrow.Author.Tests.{eq-eqb, ne_eqb, eqb-true, eqb-false, ltb-true}
 use lib.Dec.{leb, ltb, eqb}
-use lib.ListN.{length, get_or, take, drop, set, replicate, length-set, drop_of_length-le, get_or-eq_default}
+use lib.ListN.{length, get_or, take, drop, set, replicate, length-set, drop_of_length-le}
 use lib.Seq.{set_out, get_or-take, length-take-le}
 use Rattle.base.specs.Limits.{symbol_limit, cell_limit}
 use Rattle.base.proofs.Lists.{cons_at, never}
@@ -19,20 +20,10 @@ use Rattle.table.specs.Table.{cell_kind, cell_size, number_at}
 use Rattle.patterns.specs.Common.{common}
 use Rattle.patterns.specs.Next.{next_in, next_mask, opens}
 use Rattle.patterns.proofs.Next.{mask_says}
-use Rattle.base.specs.Tests.{all_from, smallest}
+use Rattle.base.specs.Tests.{smallest}
 use Rattle.base.proofs.All.{all_same, all_not}
 use Rattle.fit.specs.Cells.{put_number, is_free, serves, base_for, inside, put_cell, put_cells, cell_of, put_link, Layout, Full, Fits, place_at, place, place_length, place_lengths}
-use Rattle.placing.specs.Post.{marked, place_line, Sized, Placed}
-
--- a free cell
-module _ (bytes : List ℕ) (n : ℕ) where
-  pub free_past : length bytes ≤ cell_size * n + 1 → true ≡ is_free bytes n
-  unfolding is_free
-  free_past h = rw (get_or-eq_default bytes 0 h)
-
-  pub free_byte : eqb (get_or bytes (cell_size * n + 1) 0) 0 ≡ is_free bytes n
-  unfolding is_free
-  free_byte = refl
+use Rattle.placing.specs.Post.{marked, place_line, Placed}
 
 -- what is asked of marked symbols only
 module _ (mark : ℕ) (b : Bool) where
@@ -44,18 +35,10 @@ module _ (mark : ℕ) (b : Bool) where
 
 -- a base that serves
 module _ (bytes taken : List ℕ) (child : ℕ → Bool) (base : ℕ) where
-  pub serves_taken : (get_or taken base 0 ≡ 0 → ⊥) → false ≡ serves bytes taken child base
+  pub serves_used : {first : ℕ} {r : Bool} → get_or taken base 0 ≡ 0 → 1 ≤ first → first ≤ symbol_limit → child first ≡ true → r ≡ is_free bytes (base + first) → r ≡ false → false ≡ serves bytes taken child base
   unfolding serves
-  serves_taken h = rw (ne_eqb (get_or taken base 0) 0 h)
-
-  pub serves_used : {first : ℕ} {r : Bool} → get_or taken base 0 ≡ 0 → 1 ≤ first → first ≤ symbol_limit → r ≡ (not (child first) || is_free bytes (base + first)) → r ≡ false → false ≡ serves bytes taken child base
-  unfolding serves
-  serves_used {first = first} h a b e z =
-      rw (eq-eqb (get_or taken base 0) 0 h) (sym (all_not (λ s. not (child s) || is_free bytes (base + s)) 1 symbol_limit first a (omega (arith, b)) (sym e ∙ z)))
-
-  pub serves_free : {r : Bool} → get_or taken base 0 ≡ 0 → r ≡ all_from (λ s. not (child s) || is_free bytes (base + s)) 1 symbol_limit → r ≡ serves bytes taken child base
-  unfolding serves
-  serves_free h e = e ∙ rw (eq-eqb (get_or taken base 0) 0 h)
+  serves_used {first = first} h a b m e z =
+      rw (eq-eqb (get_or taken base 0) 0 h) (sym (all_not (λ s. not (child s) || is_free bytes (base + s)) 1 symbol_limit first a (omega (arith, b)) (rw m (sym e ∙ z))))
 
 -- the smallest number below a total that passes a test, from k on
 module _ (test : ℕ → Bool) (k total : ℕ) where
@@ -73,17 +56,8 @@ module _ (test : ℕ → Bool) (k total : ℕ) where
   unfolding smallest
   smallest_end h = let e : total - k ≡ 0 = omega arith in rw e
 
--- the cells below the limit
-pub inside_start : (child : ℕ → Bool) (base : ℕ) → inside child base ≡ all_from (λ s. not (child s) || ltb (base + s) cell_limit) 1 (suc symbol_limit - 1)
-unfolding inside
-inside_start child base = refl
-
 -- one cell
 module _ (n s : ℕ) (bytes : List ℕ) where
-  pub cell_in : set (set bytes (cell_size * n) cell_kind) (cell_size * n + 1) s ≡ put_cell n s bytes
-  unfolding put_cell
-  cell_in = refl
-
   pub cell_out : length bytes ≤ cell_size * n → bytes ≡ put_cell n s bytes
   unfolding put_cell
   cell_out h =
@@ -126,32 +100,10 @@ module _ (bytes own : List ℕ) (m base i : ℕ) {s : ℕ} (l : m ≤ length own
       rw (cons_at (take m own) i (omega (arith, size, h)), drop_of_length-le (take m own) {i = i + 1} (omega (arith, size, h)), symbol_is (omega (arith, h)))
 
 -- a path's link
-some_link : (root : ℕ) (l : List ℕ) (base : ℕ) (bytes : List ℕ) → 0 < length l → put_link root l base bytes ≡ put_number (cell_size * cell_of bytes root l + 2) base bytes
+pub some_link : (root : ℕ) (l : List ℕ) (base : ℕ) (bytes : List ℕ) → 0 < length l → put_link root l base bytes ≡ put_number (cell_size * cell_of bytes root l + 2) base bytes
 unfolding put_link
 some_link root [] base bytes h = absurd (omega (arith, h))
 some_link root (s ∷ u) base bytes h = refl
-
-module _ (root : ℕ) (own : List ℕ) (m base : ℕ) (bytes : List ℕ) where
-  pub link_root : m ≡ 0 → bytes ≡ put_link root (take m own) base bytes
-  unfolding put_link
-  link_root e = rw e
-
-  module _ (h : m ≡ 0 → ⊥) (l : m ≤ length own) {n : ℕ} (p : n ≡ cell_of bytes root (take m own)) where
-    link_is : put_link root (take m own) base bytes ≡ put_number (cell_size * n + 2) base bytes
-    link_is = some_link root (take m own) base bytes (omega (arith, length-take-le m own l, h)) ∙ rw p
-
-    pub link_in_lem : {after : List ℕ} → after ≡ put_number (cell_size * n + 2) base bytes → after ≡ put_link root (take m own) base bytes
-    link_in_lem e = e ∙ sym link_is
-
--- the base that a path gets
-module _ (root m : ℕ) (bytes taken : List ℕ) (child : ℕ → Bool) where
-  pub base_root : m ≡ 0 → root ≡ base_for root m bytes taken child
-  unfolding base_for
-  base_root h = rw (eq-eqb m 0 h)
-
-  pub base_found : {r : ℕ} → (m ≡ 0 → ⊥) → r ≡ smallest (serves bytes taken child) 1 (cell_limit - 1) → r ≡ base_for root m bytes taken child
-  unfolding base_for
-  base_found h e = e ∙ rw (ne_eqb m 0 h)
 
 -- two tests that agree on the symbols place alike
 smallest_same : (f g : ℕ → Bool) → ((i : ℕ) → f i ≡ g i) → (k n : ℕ) → smallest f k n ≡ smallest g k n
@@ -191,50 +143,27 @@ placed e = record { fits = λ z. e; full = λ z. never (sym z) }
 pub refused : {layout : Layout} {bytes taken : List ℕ} → layout ≡ Full → Placed layout false bytes taken
 refused e = record { fits = λ z. never z; full = λ z. e }
 
-pub sized_kept : {bytes taken exit last : List ℕ} → Sized bytes taken → length exit ≡ length bytes → length last ≡ length taken → Sized exit last
-sized_kept s a b = record { of_cells = a ∙ s.of_cells; of_bases = b ∙ s.of_bases }
-
 -- one path
-module _ (root m : ℕ) (own : List ℕ) (ps : List Pattern) (bytes taken : List ℕ) {mask : List ℕ} {base : ℕ} {r : Bool} (p : mask ≡ next_mask m own ps (replicate (suc symbol_limit) 0))
+module _ (root m : ℕ) (own text : List ℕ) (bytes taken : List ℕ) {mask : List ℕ} {base : ℕ} {r : Bool} (p : mask ≡ next_mask m own (map pattern_of (cut (drop 0 text))) (replicate (suc symbol_limit) 0))
     (q : base ≡ base_for root m bytes taken (marked mask)) (i : r ≡ inside (marked mask) base) where
-  path_is : place root m own ps (Fits bytes taken) ≡ place_at root m own (marked mask) base bytes taken
-  unfolding place
+  path_is : place root m own (patterns_of text) (Fits bytes taken) ≡ place_at root m own (marked mask) base bytes taken
+  unfolding place patterns_of
   path_is =
+      let ps : List Pattern = map pattern_of (cut text) in
       let same : (s : ℕ) → s < suc symbol_limit → next_in m own ps s ≡ marked mask s = λ s h. sym (mask_says m own ps p s h) in
       ap (λ (b : ℕ). place_at root m own (next_in m own ps) b bytes taken) (base_same (next_in m own ps) (marked mask) same root m bytes taken ∙ sym q)
       ∙ at_same (next_in m own ps) (marked mask) same root m own base bytes taken
 
-  pub path_full : r ≡ false → Placed (place root m own ps (Fits bytes taken)) false bytes taken
+  pub path_full : r ≡ false → Placed (place root m own (patterns_of text) (Fits bytes taken)) false bytes taken
   unfolding place_at
   path_full e = refused (path_is ∙ rw (← i, e))
 
   pub path_fits : {put exit last : List ℕ} → r ≡ true → put ≡ put_cells (marked mask) base 1 symbol_limit bytes → exit ≡ put_link root (take m own) base put → last ≡ set taken base 1
-      → Placed (place root m own ps (Fits bytes taken)) true exit last
+      → Placed (place root m own (patterns_of text) (Fits bytes taken)) true exit last
   unfolding place_at
   path_fits e a b c = placed (path_is ∙ rw (← i, e, c, b, a))
 
--- whether a line opens a path
-not_less : (a m : ℕ) → leb a m ≡ not (ltb m a)
-not_less a m = go (leb a m) refl
-  where
-    go : (z : Bool) → leb a m ≡ z → z ≡ not (ltb m a)
-    go true e = rw (le-ltb m a (leb-true a m e))
-    go false e = rw (lt-ltb m a (leb-false a m e))
-
-module _ (m : ℕ) (above own : List ℕ) {n : ℕ} (p : n ≡ length own) where
-  pub opens_short : n ≤ m → false ≡ opens m above own
-  unfolding opens
-  opens_short h = rw (← p, le-ltb m n h)
-
-  module _ (h : m < n) {k : ℕ} (q : k ≡ common above own) where
-    pub opens_apart : k < m → true ≡ opens m above own
-    unfolding opens
-    opens_apart l = rw (← p, lt-ltb m n h, ← q, lt-leb m k l)
-
-    pub opens_behind : {a : ℕ} → m ≤ k → a ≡ length above → leb a m ≡ opens m above own
-    unfolding opens
-    opens_behind {a} l e = rw (← p, lt-ltb m n h, ← q, le-leb m k l, ← e) (not_less a m)
-
+-- a line that opens a path is long enough for it
 pub opens_long : (m : ℕ) (above own : List ℕ) → opens m above own ≡ true → m ≤ length own
 unfolding opens
 opens_long m above own e = go (ltb m (length own)) refl e
@@ -242,14 +171,6 @@ opens_long m above own e = go (ltb m (length own)) refl e
     go : (z : Bool) → ltb m (length own) ≡ z → (z && not (leb m (common above own) && ltb m (length above))) ≡ true → m ≤ length own
     go true p e = omega (arith, ltb-true m (length own) p)
     go false p e = never e
-
--- a line that opens no path, or one
-module _ (layout : Layout) (bytes taken : List ℕ) {o : Bool} where
-  pub line_kept : o ≡ false → Placed (cond o layout (Fits bytes taken)) true bytes taken
-  line_kept e = placed (rw e)
-
-  pub line_placed : {r : Bool} {exit last : List ℕ} → o ≡ true → Placed layout r exit last → Placed (cond o layout (Fits bytes taken)) r exit last
-  line_placed e p = rw e p
 
 -- what is full stays full
 length_full : (root m : ℕ) (above : List ℕ) (ps : List Pattern) → place_length root m above ps Full ≡ Full
@@ -266,32 +187,43 @@ unfolding place_lengths
 lengths_full root m zero ps = refl
 lengths_full root m (suc n) ps = ap (place_lengths root (suc m) n ps) (length_full root m [] ps) ∙ lengths_full root (suc m) n ps
 
+-- a text that is empty, or not
+module _ (w : List ℕ) {r : Bool} (e : r ≡ eqb (length w) 0) where
+  pub some_left : r ≡ false → 0 < length w
+  some_left z = omega (arith, eqb-false (length w) 0 (sym e ∙ z))
+
+  pub none_left : r ≡ true → length w ≡ 0
+  none_left z = eqb-true (length w) 0 (sym e ∙ z)
+
 -- the loop over the lines
-module _ (root m : ℕ) (w : List ℕ) (at e : ℕ) (above : List ℕ) (h : at < length w) (q : e ≡ at + line_length (drop at w)) (bytes taken : List ℕ) where
-  length_turn : {next : Layout} → place_line root m (symbols_of above) (symbols_of (take (e - at) (drop at w))) (map pattern_of (cut (drop at w))) (Fits bytes taken) ≡ next
-      → place_length root m (symbols_of above) (map pattern_of (cut (drop at w))) (Fits bytes taken) ≡ place_length root m (symbols_of (take (e - at) (drop at w))) (map pattern_of (cut (drop e w))) next
+module _ (root m : ℕ) (text : List ℕ) (e : ℕ) (above : List ℕ) (h : 0 < length text) (q : e ≡ 0 + line_length (drop 0 text)) (bytes taken : List ℕ) where
+  line_cut : patterns_of text ≡ pattern_of (take e text) ∷ patterns_of (drop e text)
+  unfolding patterns_of
+  line_cut = ap (map pattern_of) (cut_line text 0 e h q) ∙ ap (λ (n : ℕ). pattern_of (take n text) ∷ map pattern_of (cut (drop e text))) (sub-zero e)
+
+  length_turn : {next : Layout} → place_line root m (symbols_of above) (symbols_of (take e text)) (patterns_of text) (Fits bytes taken) ≡ next
+      → place_length root m (symbols_of above) (patterns_of text) (Fits bytes taken) ≡ place_length root m (symbols_of (take e text)) (patterns_of (drop e text)) next
   unfolding place_length pattern_of
   length_turn p =
-      ap (λ (l : List (List ℕ)). place_length root m (symbols_of above) (map pattern_of l) (Fits bytes taken)) (cut_line w at e h q)
-      ∙ ap (place_length root m (symbols_of (take (e - at) (drop at w))) (map pattern_of (cut (drop e w))))
-      (sym (ap (λ (l : List (List ℕ)). place_line root m (symbols_of above) (symbols_of (take (e - at) (drop at w))) (map pattern_of l) (Fits bytes taken)) (cut_line w at e h q)) ∙ p)
+      ap (λ (l : List Pattern). place_length root m (symbols_of above) l (Fits bytes taken)) line_cut
+      ∙ ap (place_length root m (symbols_of (take e text)) (patterns_of (drop e text)))
+      (sym (ap (λ (l : List Pattern). place_line root m (symbols_of above) (symbols_of (take e text)) l (Fits bytes taken)) line_cut) ∙ p)
 
-  module _ {r : Bool} {exit last : List ℕ}
-      (p : Placed (place_line root m (symbols_of above) (symbols_of (take (e - at) (drop at w))) (map pattern_of (cut (drop at w))) (Fits bytes taken)) r exit last) where
-    pub length_stop : r ≡ false → place_length root m (symbols_of above) (map pattern_of (cut (drop at w))) (Fits bytes taken) ≡ Full
-    length_stop z = length_turn (p.full z) ∙ length_full root m (symbols_of (take (e - at) (drop at w))) (map pattern_of (cut (drop e w)))
+  module _ {r : Bool} {exit last : List ℕ} (p : Placed (place_line root m (symbols_of above) (symbols_of (take e text)) (patterns_of text) (Fits bytes taken)) r exit last) where
+    pub length_stop : r ≡ false → place_length root m (symbols_of above) (patterns_of text) (Fits bytes taken) ≡ Full
+    length_stop z = length_turn (p.full z) ∙ length_full root m (symbols_of (take e text)) (patterns_of (drop e text))
 
-    pub length_on : r ≡ true → place_length root m (symbols_of above) (map pattern_of (cut (drop at w))) (Fits bytes taken)
-        ≡ place_length root m (symbols_of (take (e - at) (drop at w))) (map pattern_of (cut (drop e w))) (Fits exit last)
+    pub length_on : r ≡ true → place_length root m (symbols_of above) (patterns_of text) (Fits bytes taken) ≡ place_length root m (symbols_of (take e text)) (patterns_of (drop e text)) (Fits exit last)
     length_on z = length_turn (p.fits z)
 
-pub length_begin : (root m : ℕ) (w : List ℕ) (layout : Layout) → place_length root m [] (patterns_of w) layout ≡ place_length root m (symbols_of (take (0 - 0) (drop 0 w))) (map pattern_of (cut (drop 0 w))) layout
-unfolding patterns_of symbols_of
+pub length_begin : (root m : ℕ) (w : List ℕ) (layout : Layout) → place_length root m [] (patterns_of w) layout ≡ place_length root m (symbols_of []) (patterns_of w) layout
+unfolding symbols_of
 length_begin root m w layout = refl
 
-pub length_done : (root m : ℕ) (w : List ℕ) (at : ℕ) (above : List ℕ) (layout : Layout) → length w ≤ at → place_length root m above (map pattern_of (cut (drop at w))) layout ≡ layout
-unfolding place_length cut
-length_done root m w at above layout h = rw (drop_of_length-le w h)
+pub length_done : (root m : ℕ) (above rest : List ℕ) (layout : Layout) → length rest ≡ 0 → place_length root m above (patterns_of rest) layout ≡ layout
+unfolding place_length patterns_of cut
+length_done root m above [] layout h = refl
+length_done root m above (b ∷ t) layout h = absurd (omega arith)
 
 -- the loop over the lengths below a total, from m on
 module _ (root m total : ℕ) (ps : List Pattern) (bytes taken : List ℕ) (h : m < total) {r : Bool} {exit last : List ℕ} (p : Placed (place_length root m [] ps (Fits bytes taken)) r exit last) where

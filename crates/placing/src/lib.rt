@@ -1,48 +1,45 @@
 // First fit's placing: the cells of a list's paths, in lent rooms.
 #![tactic(auto)]
 
-ghost use Rattle.std.specs.Prelude.{not, ◌||◌, [], map, ◌≡◌, ◌+◌, ◌-◌, ◌≤◌, ◌<◌, ltb, eqb, length, drop, take, set};
+ghost use Rattle.std.specs.Prelude.{ℕ, Bool, not, ◌||◌, [], ◌≡◌, ◌+◌, ◌-◌, ◌≤◌, ◌<◌, length, take, set};
 ghost use Rattle.base.specs.Limits.{symbol_limit, cell_limit};
 ghost use Rattle.words.specs.Symbols.{symbols_of};
-ghost use Rattle.lines.specs.Lines.{cut};
-ghost use Rattle.liang.specs.Patterns.{pattern_of, patterns_of};
+ghost use Rattle.liang.specs.Patterns.{patterns_of};
 ghost use Rattle.base.specs.Tests.{all_from, smallest};
-ghost use Rattle.table.specs.Table.{cell_room};
 ghost use Rattle.patterns.specs.Next.{opens};
 ghost use Rattle.fit.specs.Cells.{Fits, is_free, serves, base_for, inside, put_cell, put_cells, cell_of, put_link, place, place_length, place_list};
-ghost use Rattle.placing.specs.Post.{marked, place_line, cell_numbers, Sized, Placed};
+ghost use Rattle.placing.specs.Post.{marked, Tests, place_line, cell_numbers, Placed};
 
-// Is the cell numbered base + symbol free?
-fn is_free(cells: &[u8], base: u16, symbol: u8) -> bool
-    ensures { result ≡ is_free cells.now (base + symbol) }
-{
-    let at = table::CELL_SIZE * (base as usize + symbol as usize) + 1;
-    if cells.len() <= at {
-        return true;
-    }
-    cells[at] == 0
-}
-
-// May a symbol with this mark have the cell numbered base + symbol?
-fn is_usable(cells: &[u8], base: u16, symbol: u8, mark: u8) -> bool
-    ensures { result ≡ (not (eqb mark 1) || is_free cells.now (base + symbol)) }
-{
-    if mark != 1 {
-        return true;
-    }
-    is_free(cells, base, symbol)
-}
-
-// Are all cells free that the marked symbols need at a base?
-fn are_usable(cells: &[u8], mask: &[u8; patterns::MASK_SIZE], base: u16) -> bool
-    ensures { result ≡ all_from (λ s. not (marked mask.now s) || is_free cells.now (base + s)) 1 symbol_limit }
+// Do all marked symbols pass a test?
+fn all_marked<F: Fn(u8) -> bool>(mask: &[u8; patterns::MASK_SIZE], passes: F) -> bool
+    requires { F.IsAlwaysCallable passes }
+    ensures { (test : ℕ → Bool) → Tests (F.post passes) test → result ≡ all_from (λ s. not (marked mask.now s) || test s) 1 symbol_limit }
 {
     for symbol in 1..=base::SYMBOL_LIMIT {
-        if !is_usable(cells, base, symbol, mask[symbol as usize]) {
+        if mask[symbol as usize] != 1 {
+            continue;
+        }
+        if !passes(symbol) {
             return false;
         }
     }
     true
+}
+
+// Is the cell numbered base + symbol free?
+#[tactic(auto, unfolding(fit::specs::Cells::is_free))]
+fn is_free(cells: &[u8; table::CELL_ROOM], base: u16, symbol: u8) -> bool
+    ensures { result ≡ is_free cells.now (base + symbol) }
+{
+    let at = table::CELL_SIZE * (base as usize + symbol as usize) + 1;
+    cells.get(at).is_none_or(|b| *b == 0)
+}
+
+// Are all cells free that the marked symbols need at a base?
+fn are_free(cells: &[u8; table::CELL_ROOM], mask: &[u8; patterns::MASK_SIZE], base: u16) -> bool
+    ensures { result ≡ all_from (λ s. not (marked mask.now s) || is_free cells.now (base + s)) 1 symbol_limit }
+{
+    all_marked(mask, |symbol| is_free(cells, base, symbol))
 }
 
 // A symbol to try before the others: the first that is marked.
@@ -58,28 +55,33 @@ fn first_marked(mask: &[u8; patterns::MASK_SIZE]) -> u8
 }
 
 // Does a base serve: no path has it, and the cells it needs are free? One symbol's cell is tried first, which decides most bases.
+#[tactic(auto, unfolding(fit::specs::Cells::serves), using(crate::proofs::Laws::serves_used))]
 fn is_serving(
-    cells: &[u8],
-    taken: &[u8],
+    cells: &[u8; table::CELL_ROOM],
+    taken: &[u8; base::CELL_LIMIT],
     mask: &[u8; patterns::MASK_SIZE],
     base: u16,
     first: u8,
 ) -> bool
-    requires { (base < length taken.now) × (1 ≤ first) × (first ≤ symbol_limit) }
+    requires { (base < cell_limit) × (1 ≤ first) × (first ≤ symbol_limit) }
     ensures { result ≡ serves cells.now taken.now (marked mask.now) base }
 {
     if taken[base as usize] != 0 {
         return false;
     }
-    if !is_usable(cells, base, first, mask[first as usize]) {
+    if mask[first as usize] == 1 && !is_free(cells, base, first) {
         return false;
     }
-    are_usable(cells, mask, base)
+    are_free(cells, mask, base)
 }
 
 // The smallest base from 1 up that serves, or the limit of cells.
-fn find_base(cells: &[u8], taken: &[u8], mask: &[u8; patterns::MASK_SIZE]) -> u16
-    requires { length taken.now ≡ cell_limit }
+#[tactic(auto, using(crate::proofs::Laws::smallest_here, crate::proofs::Laws::smallest_on, crate::proofs::Laws::smallest_end))]
+fn find_base(
+    cells: &[u8; table::CELL_ROOM],
+    taken: &[u8; base::CELL_LIMIT],
+    mask: &[u8; patterns::MASK_SIZE],
+) -> u16
     ensures { result ≡ smallest (serves cells.now taken.now (marked mask.now)) 1 (cell_limit - 1) }
 {
     let first = first_marked(mask);
@@ -91,31 +93,19 @@ fn find_base(cells: &[u8], taken: &[u8], mask: &[u8; patterns::MASK_SIZE]) -> u1
     base::CELL_LIMIT as u16
 }
 
-// May a symbol with this mark have a cell numbered base + symbol at all?
-fn is_below(base: u16, symbol: u8, mark: u8) -> bool
-    ensures { result ≡ (not (eqb mark 1) || ltb (base + symbol) cell_limit) }
-{
-    if mark != 1 {
-        return true;
-    }
-    base as usize + (symbol as usize) < base::CELL_LIMIT
-}
-
 // Are all cells that the marked symbols need at a base below the limit?
 fn is_inside(mask: &[u8; patterns::MASK_SIZE], base: u16) -> bool
     ensures { result ≡ inside (marked mask.now) base }
 {
-    for symbol in 1..=base::SYMBOL_LIMIT {
-        if !is_below(base, symbol, mask[symbol as usize]) {
-            return false;
-        }
-    }
-    true
+    all_marked(mask, |symbol| {
+        base as usize + (symbol as usize) < base::CELL_LIMIT
+    })
 }
 
 // A cell's kind and symbol, where there is such a cell.
-fn put_cell(cells: &mut [u8], n: usize, symbol: u8)
-    requires { (length cells.old ≡ cell_room) × (n < cell_numbers) }
+#[tactic(auto, unfolding(fit::specs::Cells::put_cell), using(crate::proofs::Laws::cell_out))]
+fn put_cell(cells: &mut [u8; table::CELL_ROOM], n: usize, symbol: u8)
+    requires { n < cell_numbers }
     ensures { cells.new ≡ put_cell n symbol cells.old }
 {
     let at = table::CELL_SIZE * n;
@@ -126,8 +116,8 @@ fn put_cell(cells: &mut [u8], n: usize, symbol: u8)
 }
 
 // The cells of the marked symbols at a base.
-fn put_cells(cells: &mut [u8], mask: &[u8; patterns::MASK_SIZE], base: u16)
-    requires { length cells.old ≡ cell_room }
+#[tactic(auto, using(crate::proofs::Laws::cells_marked, crate::proofs::Laws::cells_other, crate::proofs::Laws::cells_end))]
+fn put_cells(cells: &mut [u8; table::CELL_ROOM], mask: &[u8; patterns::MASK_SIZE], base: u16)
     ensures { cells.new ≡ put_cells (marked mask.now) base 1 symbol_limit cells.old }
 {
     for symbol in 1..=base::SYMBOL_LIMIT {
@@ -139,6 +129,7 @@ fn put_cells(cells: &mut [u8], mask: &[u8; patterns::MASK_SIZE], base: u16)
 }
 
 // The number of the cell that the first m symbols of a line end in, walked from the root's base.
+#[tactic(auto, using(crate::proofs::Laws::cell_on, crate::proofs::Laws::cell_last))]
 pub fn cell_of(cells: &[u8], root: u16, own: &[u8], m: usize) -> usize
     requires { (0 < m) × (m ≤ length (symbols_of own.now)) }
     ensures value { result ≡ cell_of cells.now root (take m (symbols_of own.now)) }
@@ -153,27 +144,36 @@ pub fn cell_of(cells: &[u8], root: u16, own: &[u8], m: usize) -> usize
     base as usize + patterns::symbol_at(own, last) as usize
 }
 
+// A path to place: the first m symbols of a line, and the text from that line on, in which patterns go on behind them.
+#[derive(Clone, Copy)]
+struct Path<'a> {
+    own: &'a [u8],
+    m: usize,
+    text: &'a [u8],
+}
+
 // A path's base as the link of its last cell. The root has none.
-fn put_link(cells: &mut [u8], root: u16, own: &[u8], m: usize, base: u16)
-    requires { m ≤ length (symbols_of own.now) }
-    ensures { cells.new ≡ put_link root (take m (symbols_of own.now)) base cells.old }
+#[tactic(auto, unfolding(fit::specs::Cells::put_link), using(crate::proofs::Laws::some_link))]
+fn put_link(cells: &mut [u8; table::CELL_ROOM], root: u16, path: &Path, base: u16)
+    requires { path.now.m ≤ length (symbols_of path.now.own.now) }
+    ensures { cells.new ≡ put_link root (take path.now.m (symbols_of path.now.own.now)) base cells.old }
 {
-    if m == 0 {
+    if path.m == 0 {
         return;
     }
-    let cell = cell_of(cells, root, own, m);
+    let cell = cell_of(cells, root, path.own, path.m);
     table::put_number(cells, table::CELL_SIZE * cell + 2, base);
 }
 
 // The base that a path of m symbols gets: the root's is given.
+#[tactic(auto, unfolding(fit::specs::Cells::base_for))]
 fn base_for(
     root: u16,
     m: usize,
-    cells: &[u8],
-    taken: &[u8],
+    cells: &[u8; table::CELL_ROOM],
+    taken: &[u8; base::CELL_LIMIT],
     mask: &[u8; patterns::MASK_SIZE],
 ) -> u16
-    requires { length taken.now ≡ cell_limit }
     ensures { result ≡ base_for root m cells.now taken.now (marked mask.now) }
 {
     if m == 0 {
@@ -183,7 +183,7 @@ fn base_for(
 }
 
 // A mark that a base is taken, where there is such a base.
-fn take_base(taken: &mut [u8], base: u16)
+fn take_base(taken: &mut [u8; base::CELL_LIMIT], base: u16)
     ensures { taken.new ≡ set taken.old base 1 }
 {
     let at = base as usize;
@@ -192,32 +192,31 @@ fn take_base(taken: &mut [u8], base: u16)
     }
 }
 
-// The path of the first m symbols of own gets its base; the patterns are read from a place of the text on.
+// A path gets its base.
+#[tactic(auto, using(crate::proofs::Laws::path_full, crate::proofs::Laws::path_fits))]
 fn place_path(
-    cells: &mut [u8],
-    taken: &mut [u8],
+    cells: &mut [u8; table::CELL_ROOM],
+    taken: &mut [u8; base::CELL_LIMIT],
     root: u16,
-    own: &[u8],
-    m: usize,
-    text: &[u8],
-    at: usize,
+    path: &Path,
 ) -> bool
-    requires { Sized cells.old taken.old × (m ≤ length (symbols_of own.now)) }
-    ensures { Placed (place root m (symbols_of own.now) (map pattern_of (cut (drop at text.now))) (Fits cells.old taken.old)) result cells.new taken.new }
+    requires { path.now.m ≤ length (symbols_of path.now.own.now) }
+    ensures { Placed (place root path.now.m (symbols_of path.now.own.now) (patterns_of path.now.text.now) (Fits cells.old taken.old)) result cells.new taken.new }
 {
     let mut mask = [0u8; patterns::MASK_SIZE];
-    patterns::mark_next(own, m, text, at, &mut mask);
-    let base = base_for(root, m, cells, taken, &mask);
+    patterns::mark_next(path.own, path.m, path.text, 0, &mut mask);
+    let base = base_for(root, path.m, cells, taken, &mask);
     if !is_inside(&mask, base) {
         return false;
     }
     put_cells(cells, &mask, base);
-    put_link(cells, root, own, m, base);
+    put_link(cells, root, path, base);
     take_base(taken, base);
     true
 }
 
 // Does a line go on behind its first m symbols where the one above it does not behind the same?
+#[tactic(auto, unfolding(patterns::specs::Next::opens))]
 fn is_opening(m: usize, above: &[u8], own: &[u8]) -> bool
     ensures { result ≡ opens m (symbols_of above.now) (symbols_of own.now) }
 {
@@ -230,60 +229,59 @@ fn is_opening(m: usize, above: &[u8], own: &[u8]) -> bool
     patterns::symbol_count(above) <= m
 }
 
-// A line's path of m symbols is placed where the line opens it.
+// A path is placed where its line opens it, below the line above.
+#[tactic(auto, using(crate::proofs::Laws::opens_long))]
 fn place_line(
-    cells: &mut [u8],
-    taken: &mut [u8],
+    cells: &mut [u8; table::CELL_ROOM],
+    taken: &mut [u8; base::CELL_LIMIT],
     root: u16,
-    m: usize,
     above: &[u8],
-    own: &[u8],
-    text: &[u8],
-    at: usize,
+    path: &Path,
 ) -> bool
-    requires { Sized cells.old taken.old }
-    ensures { Placed (place_line root m (symbols_of above.now) (symbols_of own.now) (map pattern_of (cut (drop at text.now))) (Fits cells.old taken.old)) result cells.new taken.new }
+    ensures { Placed (place_line root path.now.m (symbols_of above.now) (symbols_of path.now.own.now) (patterns_of path.now.text.now) (Fits cells.old taken.old)) result cells.new taken.new }
 {
-    if !is_opening(m, above, own) {
+    if !is_opening(path.m, above, path.own) {
         return true;
     }
-    place_path(cells, taken, root, own, m, text, at)
+    place_path(cells, taken, root, path)
 }
 
 // All paths of m symbols, in the text's order.
-fn place_length(cells: &mut [u8], taken: &mut [u8], root: u16, m: usize, text: &[u8]) -> bool
-    requires { Sized cells.old taken.old }
+#[tactic(auto, using(crate::proofs::Laws::placed, crate::proofs::Laws::refused, crate::proofs::Laws::some_left, crate::proofs::Laws::none_left, crate::proofs::Laws::length_begin, crate::proofs::Laws::length_stop, crate::proofs::Laws::length_on, crate::proofs::Laws::length_done, lines::proofs::Laws::line_starts, lines::proofs::Laws::line_ends))]
+fn place_length(
+    cells: &mut [u8; table::CELL_ROOM],
+    taken: &mut [u8; base::CELL_LIMIT],
+    root: u16,
+    m: usize,
+    text: &[u8],
+) -> bool
     ensures { Placed (place_length root m [] (patterns_of text.now) (Fits cells.old taken.old)) result cells.new taken.new }
 {
-    let mut above = 0;
-    let mut at = 0;
-    // `lines::line_end` says where the next line begins; nothing is counted.
-    while at < text.len() {
-        let end = lines::line_end(text, at);
-        if !place_line(
-            cells,
-            taken,
-            root,
-            m,
-            &text[above..at],
-            &text[at..end],
-            text,
-            at,
-        ) {
+    let mut above = &text[..0];
+    let mut rest = text;
+    // A path wants the text from its line on, which an iterator over lines has not.
+    while !rest.is_empty() {
+        let (own, behind) = rest.split_at(lines::line_end(rest, 0));
+        let path = Path { own, m, text: rest };
+        if !place_line(cells, taken, root, above, &path) {
             return false;
         }
-        above = at;
-        at = end;
+        above = own;
+        rest = behind;
     }
     true
 }
 
 // All paths of a text placed into the layout that the two rooms hold, by length, the root with the base that is given.
-// Where they don't fit, what the two rooms hold is left open; their sizes stay.
-pub fn place_all(cells: &mut [u8], taken: &mut [u8], root: u16, text: &[u8]) -> bool
-    requires { Sized cells.old taken.old }
-    ensures placed { Placed (place_list root (patterns_of text.now) (Fits cells.old taken.old)) result cells.new taken.new }
-    ensures left { Sized cells.new taken.new }
+// Where they don't fit, what the two rooms hold is left open.
+#[tactic(auto, using(crate::proofs::Laws::placed, crate::proofs::Laws::refused, crate::proofs::Laws::lengths_stop, crate::proofs::Laws::lengths_on, crate::proofs::Laws::lengths_done))]
+pub fn place_all(
+    cells: &mut [u8; table::CELL_ROOM],
+    taken: &mut [u8; base::CELL_LIMIT],
+    root: u16,
+    text: &[u8],
+) -> bool
+    ensures { Placed (place_list root (patterns_of text.now) (Fits cells.old taken.old)) result cells.new taken.new }
 {
     for m in 0..base::PATTERN_LIMIT {
         if !place_length(cells, taken, root, m, text) {

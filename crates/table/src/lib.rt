@@ -39,7 +39,7 @@ pub struct Cell {
 }
 
 // One entry of a chain, and the number of the next.
-#[derive(Clone, Copy)]
+#[derive(Clone, Copy, PartialEq, Eq)]
 pub struct Entry {
     pub distance: u8,
     pub level: u8,

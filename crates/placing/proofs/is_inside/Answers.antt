@@ -1,20 +1,10 @@
 use borrow.Author.Rules.{rules}
-use Prim.Native.Nat.{suc}
-use mathlib.Core.Path.{sym, ◌∙◌}
-use native.Mathlib.Omega.{arith}
-use Rattle.base.specs.Limits.{symbol_limit}
-use Rattle.base.proofs.All.{all_pass, all_fail, all_end}
-use Rattle.placing.proofs.Laws.{inside_start}
+use Prim.Native.Nat.{◌+◌}
+use lib.Dec.{ltb}
+use Rattle.base.specs.Limits.{cell_limit}
+use Rattle.fit.specs.Cells.{inside}
 use Rattle.placing.proofs.is_inside.Goals as goal
 
-pub loop-symbol-init : goal.loop-symbol-init
-loop-symbol-init c = (search rules, inside_start _ _)
-
-pub returns-then-not-is_below : goal.returns-then-not-is_below
-returns-then-not-is_below c = sym (c.loop-symbol.invariant.1 ∙ all_fail _ _ (suc symbol_limit) (omega arith) (sym c.is_below.ensures ∙ c.if-not-is_below.true))
-
-pub loop-symbol-preserved : goal.loop-symbol-preserved
-loop-symbol-preserved c = (search rules, c.loop-symbol.invariant.1 ∙ all_pass _ _ (suc symbol_limit) (omega arith) (sym c.is_below.ensures ∙ c.if-not-is_below.false))
-
 pub returns : goal.returns
-returns c = sym (c.loop-symbol.invariant.1 ∙ all_end _ _ (suc symbol_limit) (omega arith))
+unfolding inside
+returns c = c.all_marked.ensures (λ s. ltb (c.args.base + s) cell_limit) (λ s r h p. search rules)

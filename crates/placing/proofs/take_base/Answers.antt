@@ -1,6 +1,7 @@
 use mathlib.Core.Path.{sym}
+use native.Mathlib.Omega.{arith}
 use lib.Seq.{set_out}
 use Rattle.placing.proofs.take_base.Goals as goal
 
-pub returns-else-at-taken : goal.returns-else-at-taken
-returns-else-at-taken c = sym (set_out _ _ _ c.if-at-taken.false)
+pub returns-else-at-lt8192 : goal.returns-else-at-lt8192
+returns-else-at-lt8192 c = sym (set_out c.args.taken.now _ _ (omega arith))

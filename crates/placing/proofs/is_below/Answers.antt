@@ -1,8 +1,0 @@
-use Rattle.placing.proofs.Laws.{when_other, when_marked}
-use Rattle.placing.proofs.is_below.Goals as goal
-
-pub returns-then-mark-ne1 : goal.returns-then-mark-ne1
-returns-then-mark-ne1 c = when_other _ _ c.if-mark-ne1.true
-
-pub returns : goal.returns
-returns c = when_marked _ _ c.if-mark-ne1.false

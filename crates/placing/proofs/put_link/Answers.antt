@@ -1,9 +1,0 @@
-use Rattle.words.specs.Symbols.{symbols_of}
-use Rattle.placing.proofs.Laws.{link_root, link_in_lem}
-use Rattle.placing.proofs.put_link.Goals as goal
-
-pub returns-then-m-eq0 : goal.returns-then-m-eq0
-returns-then-m-eq0 c = link_root _ (symbols_of c.args.own.now) _ _ _ c.if-m-eq0.true
-
-pub returns : goal.returns
-returns c = link_in_lem _ (symbols_of c.args.own.now) _ _ _ c.if-m-eq0.false c.requires c.cell_of-cell.ensures.value c.put_number.ensures
