@@ -1,11 +1,11 @@
 -- One law for each way through the code, and how long what is written may be.
-use Prim.Native.Nat.{ℕ, zero, suc, ◌+◌, ◌*◌, ◌-◌, ◌/◌, ◌≤◌, ◌<◌}
+use Prim.Native.Nat.{ℕ, zero, suc, ◌+◌, ◌*◌, ◌-◌, ◌/◌, ◌≤◌}
 use mathlib.Core.Bool.{Bool, true, false, cond}
 use mathlib.Core.List.{List, [], ◌∷◌, ◌++◌, append_assoc}
 use mathlib.Core.Path.{◌≡◌, refl, sym, ◌∙◌, ap}
 use native.Mathlib.Nat.{mul-suc}
 use native.Mathlib.Omega.{arith}
-use borrow.Author.Tests.{eq-eqb, ne_eqb, lt-ltb, le-ltb}
+use borrow.Author.Tests.{eq-eqb, ne_eqb}
 use lib.Dec.{eqb, ltb}
 use lib.ListN.{length, take, drop, length-append}
 use lib.Seq.{drop-drop, sets-eq}
@@ -15,21 +15,6 @@ use Rattle.writing.specs.Writing.{last_digit, digits, field, counted, letter_wit
 use Rattle.writing.specs.Written.{Fits, Writes}
 use Rattle.writing.specs.declared.Writer.{Writer}
 use Rattle.writing.proofs.Parts.{Going, go_fits, go_step}
-
--- digits
-pub digits_one : (more n : ℕ) → more ≡ 0 → digits more n ≡ last_digit n
-unfolding digits
-digits_one more n e = rw e
-
-pub digits_small : (more n : ℕ) → n < 10 → digits more n ≡ last_digit n
-unfolding digits
-digits_small zero n h = refl
-digits_small (suc more) n h = rw (lt-ltb n 10 h)
-
-pub digits_more : (more n : ℕ) → (more ≡ 0 → ⊥) → 10 ≤ n → digits more n ≡ digits (more - 1) (n / 10) ++ last_digit n
-unfolding digits
-digits_more zero n z h = absurd (z refl)
-digits_more (suc more) n z h = let e : suc more - 1 ≡ more = omega arith in rw (le-ltb n 10 h, e)
 
 -- a letter
 pub letter_plain : (sign : List ℕ) (mark b : ℕ) → mark ≡ 0 → letter_with sign mark b ≡ b ∷ []

@@ -20,6 +20,13 @@ written_as e p = rw e p
 pub none_written : (a : Writer) → a.at ≤ length a.room.now → Writes [] a a
 none_written a h = record { room = refl; put = record { fits = omega (arith, h); ends = omega arith; memory = refl } }
 
+-- writing goes on inside of the room, which has its size
+pub written_size : {bytes : List ℕ} {a b : Writer} → Writes bytes a b → length b.room.now ≡ length a.room.now
+written_size {bytes} {a} p = rw p.put.memory (length-sets a.room.now a.at bytes)
+
+pub written_within : {bytes : List ℕ} {a b : Writer} → Writes bytes a b → b.at ≤ length b.room.now
+written_within p = omega (arith, p.put.fits, p.put.ends, written_size p)
+
 -- two parts
 module _ (x y : List ℕ) {whole : List ℕ} (e : whole ≡ x ++ y) (a : Writer) where
   pub first_part : Fits whole a → Fits x a
@@ -29,17 +36,15 @@ module _ (x y : List ℕ) {whole : List ℕ} (e : whole ≡ x ++ y) (a : Writer)
     pub second_part : Fits whole a → Fits y b
     second_part h =
         let n : length whole ≡ length x + length y = rw e (length-append x y) in
-        let l : length b.room.now ≡ length a.room.now = rw p.put.memory (length-sets a.room.now a.at x) in
-        omega (arith, h, n, l, p.put.ends)
+        omega (arith, h, n, written_size p, p.put.ends)
 
     pub both_parts : {c : Writer} → Writes y b c → Writes whole a c
     both_parts q =
         let n : length whole ≡ length x + length y = rw e (length-append x y) in
-        let l : length b.room.now ≡ length a.room.now = rw p.put.memory (length-sets a.room.now a.at x) in
         record {
           room = q.room ∙ p.room;
           put = record {
-            fits = omega (arith, q.put.fits, n, l, p.put.ends);
+            fits = omega (arith, q.put.fits, n, written_size p, p.put.ends);
             ends = omega (arith, q.put.ends, p.put.ends, n);
             memory = q.put.memory ∙ rw (p.put.memory, p.put.ends, e) (sym (sets_append x y a.room.now a.at));
           };

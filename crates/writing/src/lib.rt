@@ -4,7 +4,7 @@
 ghost use Rattle.std.specs.Prelude.{[], ◌∷◌, ◌+◌, ◌≤◌, ◌≡◌, length, take};
 ghost use Rattle.writing.specs.Put.{Put};
 ghost use Rattle.writing.specs.Written.{Fits, Writes};
-ghost use Rattle.writing.specs.Writing.{digits, decimal, field, counted, letter_with, hyphenated};
+ghost use Rattle.writing.specs.Writing.{decimal, field, counted, letter_with, hyphenated};
 
 // Bytes by their names; specs/Writing.antt has each of them.
 pub const SPACE: u8 = 32;
@@ -59,28 +59,13 @@ impl<'a> Writer<'a> {
         self.at = end;
     }
 
-    // The last digits of a number, the first of them not 0 unless it stands alone.
-    fn put_digits(&mut self, more: usize, n: u64)
-        requires { Fits (digits more n) self.old }
-        ensures { Writes (digits more n) self.old self.new }
-    {
-        let digit = ZERO_DIGIT + (n % 10) as u8;
-        if more == 0 {
-            return self.put_byte(digit);
-        }
-        if n < 10 {
-            return self.put_byte(digit);
-        }
-        self.put_digits(more - 1, n / 10);
-        self.put_byte(digit)
-    }
-
     // A number in decimal digits.
     pub fn put_decimal(&mut self, n: u64)
         requires { Fits (decimal n) self.old }
         ensures { Writes (decimal n) self.old self.new }
     {
-        self.put_digits(19, n)
+        let mut digits = itoa::Buffer::new();
+        self.put_text(digits.format(n).as_bytes())
     }
 
     // A space and a number.
