@@ -6,8 +6,8 @@ ghost use Rattle.base.specs.Limits.{room_size1980};
 ghost use Rattle.reprint.specs.Reprint.{line_limit1980};
 
 use console::Stream;
-use report::Line;
 use spool::Breaker;
+use writing::Writer;
 
 // The machine of 1980.
 struct Machine;
@@ -18,7 +18,7 @@ impl Breaker for Machine {
     ghost ROOM_SIZE = { room_size1980 };
 
     fn line_limit() -> usize {
-        reprint::LINE_LIMIT_1980
+        report::line_limit(base::WORD_LIMIT_1980)
     }
 
     fn name() -> &'static [u8] {
@@ -29,8 +29,8 @@ impl Breaker for Machine {
         b" instructions"
     }
 
-    fn put_word(&self, word: &[u8], marks: &mut [u8], room: &mut [u8], at: usize) -> Line {
-        reprint::put_reprint(word, marks, room, at)
+    fn put_word(&self, word: &[u8], marks: &mut [u8], w: &mut Writer) -> Option<usize> {
+        reprint::put_reprint(word, marks, w)
     }
 }
 

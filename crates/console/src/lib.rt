@@ -4,12 +4,13 @@
 ghost use Rattle.std.specs.Prelude.{◌≤◌, length, IfOk, IfSome};
 
 use base::Ground;
-use paths::PATH_MAX;
+use paths::{INVALID, NAME_TOO_LONG, PATH_MAX};
 use std::env::FillError;
 use std::fmt::InlineText;
 use std::fs::File;
 use std::io::{Error, Read as _, Result};
 use std::rt::Env;
+use writing::Writer;
 
 // Where a line goes: to standard output or to standard error.
 #[derive(Clone, Copy)]
@@ -18,13 +19,11 @@ pub enum Stream {
     Errors,
 }
 
-// The system's numbers for an argument that is missing, and for one that doesn't fit.
-const INVALID: i32 = 22;
-
-const NAME_TOO_LONG: i32 = 36;
-
 // The system's words for an error and its number behind them have fewer bytes.
 const REASON_LIMIT: usize = 128;
+
+// The line of a refusal has fewer bytes.
+const REFUSAL_LIMIT: usize = 128;
 
 // Reads until the file ends or the buffer is full. Each turn but the last reads at least a byte, so that as many turns as there are
 // bytes are enough.
@@ -79,7 +78,7 @@ pub fn has_argument(rt: &HostRuntime, i: usize) -> bool {
     !matches!(rt.arg(i, &mut []), Err(FillError::NotPresent))
 }
 
-// Puts argument i into a room.
+// Puts argument i into a room. One that is missing or doesn't fit is the error that the system has for a path.
 pub fn put_argument(rt: &HostRuntime, i: usize, room: &mut [u8]) -> Result<usize>
     ensures { IfOk result (λ size. size ≤ length room.new) }
 {
@@ -148,9 +147,10 @@ pub fn print(rt: &HostRuntime, program: &[u8], out: Stream, line: &[u8]) {
 
 // A list, a table or a packing is refused: "!", number and place.
 pub fn print_refusal(rt: &HostRuntime, program: &[u8], out: Stream, ground: Ground) {
-    let mut line = [0u8; report::LINE_LIMIT];
-    let end = report::put_refusal(writing::EXCLAMATION, ground, &mut line, 0);
-    print(rt, program, out, &line[..end]);
+    let mut line = [0u8; REFUSAL_LIMIT];
+    let mut w = Writer::new(&mut line);
+    report::put_refusal(writing::EXCLAMATION, ground, &mut w);
+    print(rt, program, out, w.written());
 }
 
 // Nothing was done, and no ground says why: a file can't be opened, read or written, or the arguments are wrong.

@@ -7,7 +7,7 @@ mod status;
 ghost use Rattle.std.specs.Prelude.{IfOk, IfSome};
 ghost use Rattle.io.specs.Counts.{IsPrefixLen};
 
-use paths::PATH_MAX;
+use paths::{NO_TEXT, PATH_MAX};
 use status::Status;
 use std::fs;
 use std::fs::{File, OpenOptions, Permissions};
@@ -30,12 +30,10 @@ const REGULAR: u32 = 0o100000;
 // The rights of a file are what its mode leaves when divided by this: nine bits.
 const RIGHTS: u32 = 512;
 
-// The system's numbers for what isn't allowed, what isn't there, and what is no text.
+// The system's numbers for what isn't allowed, and for what isn't there.
 const NOT_PERMITTED: i32 = 1;
 
 const NOT_FOUND: i32 = 2;
-
-const NO_TEXT: i32 = 84;
 
 fn is_regular(file: Status) -> bool {
     file.mode & KINDS == REGULAR
@@ -188,7 +186,9 @@ fn read_link(rt: &HostRuntime, path: &[u8], text: &mut [u8]) -> Result<Option<us
     }
 }
 
-// Follows one link. Where the path in the room is none's, there is no path that it stands for.
+// Follows one link: where the path in the room is a link's, the path that it stands for is put in its place, and the answer is its size;
+// where it doesn't fit, the whole room's, which is longer than any path. The answer is None where the path is no link's or the system
+// tells of none, and an error where the path can't be handed to the system, the link's text is none, or there was no memory for it.
 fn follow_once(rt: &HostRuntime, room: &mut [u8], size: usize) -> Result<Option<usize>>
     requires { IsPrefixLen size room.old }
     ensures { IfOk result (λ told. IfSome told (λ next. IsPrefixLen next room.new)) }

@@ -5,10 +5,11 @@
 ghost use Rattle.std.specs.Prelude.{◌≡◌, ◌≤◌, length};
 ghost use Rattle.base.specs.Limits.{room_size};
 ghost use Rattle.report.specs.Report.{line_limit};
+ghost use Rattle.spool.specs.State.{label_limit};
 
 use hyphenation::Setting;
-use report::Line;
 use spool::Breaker;
+use writing::Writer;
 
 // Breaks by judged lists and a packed table.
 #[derive(Clone, Copy)]
@@ -22,7 +23,7 @@ impl<'a> Breaker for Lists<'a> {
     fn line_limit() -> usize
         ensures { result ≡ line_limit }
     {
-        report::LINE_LIMIT
+        report::line_limit(base::WORD_LIMIT)
     }
 
     fn name() -> &'static [u8] {
@@ -30,13 +31,13 @@ impl<'a> Breaker for Lists<'a> {
     }
 
     fn label() -> &'static [u8]
-        ensures { length result.now ≤ 51 }
+        ensures { length result.now ≤ label_limit }
     {
         b" probes"
     }
 
-    fn put_word(&self, word: &[u8], marks: &mut [u8], room: &mut [u8], at: usize) -> Line {
-        report::put_word(self.0, word, marks, room, at)
+    fn put_word(&self, word: &[u8], marks: &mut [u8], w: &mut Writer) -> Option<usize> {
+        report::put_word(self.0, word, marks, w)
     }
 }
 

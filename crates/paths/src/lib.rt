@@ -8,11 +8,11 @@ ghost use Rattle.paths.specs.Paths.{is_path, folder_size, folder, link_start, na
 use std::io::{Error, Result};
 
 // The system's numbers for a path that it can't be handed: it is too long, or it has a 0 or no text in it.
-const NAME_TOO_LONG: i32 = 36;
+pub const NAME_TOO_LONG: i32 = 36;
 
-const INVALID: i32 = 22;
+pub const INVALID: i32 = 22;
 
-const NO_TEXT: i32 = 84;
+pub const NO_TEXT: i32 = 84;
 
 // The most bytes of a path for C, with the 0 that ends it.
 pub const PATH_MAX: usize = 4096;
@@ -71,7 +71,8 @@ pub fn link_start(path: &[u8], text: &[u8]) -> usize
 }
 
 // Puts a name behind the first bytes of a room. Where it doesn't fit, the answer is the whole room, which is longer than any path: the
-// system then says that the name is too long.
+// system then says that the name is too long. A room and a place, and no writer: each caller says where its name goes, and only one puts
+// another name behind it.
 pub fn put_name(name: &[u8], room: &mut [u8], at: usize) -> usize
     ensures { Named at name.now room.old result room.new }
 {
@@ -81,7 +82,9 @@ pub fn put_name(name: &[u8], room: &mut [u8], at: usize) -> usize
     if name.len() > room.len() - at {
         return room.len(); // what doesn't fit
     }
-    writing::put_text(name, room, at)
+    let end = at + name.len();
+    room[at..end].copy_from_slice(name);
+    end
 }
 
 // Puts a name into a room behind the folder of a path.

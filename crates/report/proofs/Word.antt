@@ -1,6 +1,5 @@
 -- That every line fits, and what a word's line is.
 use Prim.Native.Nat.{ℕ, ◌+◌, ◌≤◌}
-use mathlib.Core.Bool.{true, false}
 use mathlib.Core.List.{List, [], ◌∷◌, ◌++◌}
 use mathlib.Core.Path.{◌≡◌, refl, sym, ◌∙◌, ap}
 use native.Mathlib.Omega.{arith}
@@ -8,13 +7,14 @@ use lib.Dec.{eqb}
 use lib.ListN.{length, drop, length-append}
 use Rattle.base.specs.Limits.{room_size, word_limit}
 use Rattle.base.specs.Grounds.{told, Check}
-use Rattle.std.specs.Prelude.{Ok, Err}
+use Rattle.std.specs.Prelude.{Some, None, Ok, Err}
 use Rattle.base.specs.declared.Ground.{Ground}
 use Rattle.rooms.specs.Rooms.{sheet, written}
 use Rattle.rooms.proofs.Sheets.{sheet_length}
-use Rattle.writing.specs.Put.{Put}
+use Rattle.writing.specs.Written.{Fits, Writes}
+use Rattle.writing.specs.declared.Writer.{Writer}
 use Rattle.writing.specs.Writing.{question, field, counted, hyphenated}
-use Rattle.writing.proofs.Going.{put_as}
+use Rattle.writing.proofs.Parts.{fits_as, written_as}
 use Rattle.writing.proofs.Laws.{either_short, digits_short, counted_short, word_short, marks_front}
 use Rattle.words.specs.Symbols.{line_feed, hyphen}
 use Rattle.words.specs.Words.{judge_word}
@@ -42,8 +42,8 @@ told_short sign number list place =
       length-append (field place) (line_feed ∷ []),
     )
 
-pub refusal_fits : (sign : ℕ) (g : Ground) (at n : ℕ) → at + line_limit ≤ n → at + length (refusal_line sign g) ≤ n
-refusal_fits sign g at n h = omega (arith, told_short sign (told g).number (told g).list (told g).place)
+pub refusal_fits : (sign : ℕ) (g : Ground) (w : Writer) → w.at + line_limit ≤ length w.room.now → Fits (refusal_line sign g) w
+refusal_fits sign g w h = omega (arith, h, told_short sign (told g).number (told g).list (told g).place)
 
 -- every line of a word has at most this many bytes, whatever the call answers
 line_short : (left right : ℕ) (word customer house table : List ℕ) (size : ℕ) → length (line_for left right word customer house table size) ≤ line_limit
@@ -60,14 +60,15 @@ line_short left right word customer house table size = go (judge_word_alone word
         )
     go (Err g) e = omega (arith, told_short question (told g).number (told g).list (told g).place)
 
-pub line_fits : (left right : ℕ) (word customer house table : List ℕ) (size at n : ℕ) → at + line_limit ≤ n → at + length (line_for left right word customer house table size) ≤ n
-line_fits left right word customer house table size at n h = omega (arith, line_short left right word customer house table size)
+pub line_fits : (left right : ℕ) (word customer house table : List ℕ) (size : ℕ) (w : Writer) → w.at + line_limit ≤ length w.room.now → Fits (line_for left right word customer house table size) w
+line_fits left right word customer house table size w h = omega (arith, h, line_short left right word customer house table size)
 
 -- beside the last label, 13 bytes of labels, three numbers of 21 with their spaces, and the line feed
-pub sums_fit : (words refused : ℕ) (label : List ℕ) (sum at n : ℕ) → at + 77 + length label ≤ n → at + length (sums_line words refused label sum) ≤ n
-sums_fit words refused label sum at n h =
+pub sums_fit : (words refused : ℕ) (label : List ℕ) (sum : ℕ) (w : Writer) → w.at + 77 + length label ≤ length w.room.now → Fits (sums_line words refused label sum) w
+sums_fit words refused label sum w h =
     omega (
       arith,
+      h,
       counted_short words_label words,
       counted_short refused_label refused,
       counted_short label sum,
@@ -116,14 +117,14 @@ module _ (left right : ℕ) (word customer house table marks : List ℕ) {r : An
     found_line : hyphenated (hyphen ∷ []) after word ++ (line_feed ∷ []) ≡ line_for left right word customer house table (length marks)
     found_line = rw (found_answer, shown)
 
-    pub found_fits : (at n : ℕ) → at + length (line_for left right word customer house table (length marks)) ≤ n → at + length (hyphenated (hyphen ∷ []) after word ++ (line_feed ∷ [])) ≤ n
-    found_fits at n h = rw found_line h
+    pub found_fits : (w : Writer) → Fits (line_for left right word customer house table (length marks)) w → Fits (hyphenated (hyphen ∷ []) after word ++ (line_feed ∷ [])) w
+    found_fits w h = fits_as w (sym found_line) h
 
-    pub found_reports : {at end : ℕ} {room filled : List ℕ} → Put (hyphenated (hyphen ∷ []) after word ++ (line_feed ∷ [])) at room end filled
-        → Reports left right word customer house table marks room at (record { end = end; summed = looks; refused = false }) after filled
+    pub found_reports : {before filled : Writer} → Writes (hyphenated (hyphen ∷ []) after word ++ (line_feed ∷ [])) before filled
+        → Reports left right word customer house table marks before (Some looks) after filled
     found_reports p =
         record {
-          line = put_as (sym found_line) p;
+          line = written_as (sym found_line) p;
           looked = rw found_answer;
           told = rw found_answer;
           memory = b.memory;
@@ -133,14 +134,14 @@ module _ (left right : ℕ) (word customer house table marks : List ℕ) {r : An
     refused_answer : word_answer left right word customer house table (length marks) ≡ Err g
     refused_answer = sym b.answered ∙ e
 
-    pub refused_fits : (at n : ℕ) → at + length (line_for left right word customer house table (length marks)) ≤ n → at + length (refusal_line question g) ≤ n
-    refused_fits at n h = rw refused_answer at h
+    pub refused_fits : (w : Writer) → Fits (line_for left right word customer house table (length marks)) w → Fits (refusal_line question g) w
+    refused_fits w h = rw refused_answer at h
 
-    pub refused_reports : {at end : ℕ} {room filled : List ℕ} → Put (refusal_line question g) at room end filled
-        → Reports left right word customer house table marks room at (record { end = end; summed = 0; refused = true }) after filled
+    pub refused_reports : {before filled : Writer} → Writes (refusal_line question g) before filled
+        → Reports left right word customer house table marks before None after filled
     refused_reports p =
         record {
-          line = put_as (rw refused_answer) p;
+          line = written_as (rw refused_answer) p;
           looked = rw refused_answer;
           told = rw refused_answer;
           memory = b.memory;

@@ -1,13 +1,13 @@
 -- The lines that the program writes.
-use Rattle.std.specs.Prelude.{ℕ, ◌+◌, ◌*◌, Bool, true, false, cond, List, [], ◌∷◌, ◌++◌, ◌≡◌, eqb, length, Ok, Err}
+use Rattle.std.specs.Prelude.{ℕ, ◌+◌, ◌*◌, Bool, true, false, cond, List, [], ◌∷◌, ◌++◌, ◌≡◌, eqb, length, Option, Some, None, Ok, Err}
 use Rattle.base.specs.Grounds.{told}
 use Rattle.base.specs.declared.Ground.{Ground}
 use Rattle.base.specs.Limits.{word_limit}
-use Rattle.writing.specs.Put.{Put}
+use Rattle.writing.specs.Written.{Writes}
+use Rattle.writing.specs.declared.Writer.{Writer}
 use Rattle.writing.specs.Writing.{space, question, field, counted, hyphenated}
 use Rattle.words.specs.Symbols.{line_feed, hyphen}
 use Rattle.hyphenation.specs.Calls.{judge_word_alone, room_after, breaks_sheet, word_answer, Answer}
-use Rattle.report.specs.declared.Line.{Line}
 
 -- A sign ("?" for a word, "!" for a list or a packing), number and place ("for ground 6 list, then offset"), "0 where none".
 abbrev pub list_field : ℕ → List ℕ
@@ -46,17 +46,29 @@ abbrev pub is_refused : Answer → Bool
 is_refused (Ok f) = false
 is_refused (Err g) = true
 
+-- What a program gets of a word's line: what the word adds to its sum, nothing where the word is refused. Those count as refused.
+abbrev pub summed : Option ℕ → ℕ
+summed (Some n) = n
+summed None = 0
+
+abbrev pub refused : Option ℕ → Bool
+refused (Some n) = false
+refused None = true
+
 -- Every line of a word fits into this many bytes: its letters, as many hyphens at most, and the line feed.
+abbrev pub line_limit_of : ℕ → ℕ
+line_limit_of n = 2 * n + 2
+
 abbrev pub line_limit : ℕ
-line_limit = 2 * word_limit + 2
+line_limit = line_limit_of word_limit
 
 -- The line of a word where margins, lists and table were judged before, with a break room of this size.
 abbrev pub line_for : ℕ → ℕ → List ℕ → List ℕ → List ℕ → List ℕ → ℕ → List ℕ
 line_for left right word customer house table size = word_line (word_answer left right word customer house table size) (breaks_sheet left right word customer house table) word
 
 -- What is put and returned for a word where margins, lists and table were judged before.
-pub record Reports (left right : ℕ) (word customer house table marks room : List ℕ) (at : ℕ) (r : Line) (marks_after after : List ℕ) : Type 0 where
-  pub line : Put (line_for left right word customer house table (length marks)) at room r.end after
-  pub looked : r.summed ≡ looks_of (word_answer left right word customer house table (length marks))
-  pub told : r.refused ≡ is_refused (word_answer left right word customer house table (length marks))
+pub record Reports (left right : ℕ) (word customer house table marks : List ℕ) (before : Writer) (r : Option ℕ) (marks_after : List ℕ) (after : Writer) : Type 0 where
+  pub line : Writes (line_for left right word customer house table (length marks)) before after
+  pub looked : summed r ≡ looks_of (word_answer left right word customer house table (length marks))
+  pub told : refused r ≡ is_refused (word_answer left right word customer house table (length marks))
   pub memory : marks_after ≡ room_after (judge_word_alone word (length marks)) (breaks_sheet left right word customer house table) marks

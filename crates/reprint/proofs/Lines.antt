@@ -1,21 +1,21 @@
 -- That every line fits, and what a word's line is.
 use Prim.Native.Nat.{ℕ, ◌+◌, ◌≤◌}
-use mathlib.Core.Bool.{true, false}
 use mathlib.Core.List.{List, [], ◌∷◌, ◌++◌}
 use mathlib.Core.Path.{◌≡◌, refl, sym, ◌∙◌, ap}
 use native.Mathlib.Omega.{arith}
 use lib.ListN.{length, drop, length-append}
 use Rattle.base.specs.Limits.{word_limit1980, room_size1980, budget1980}
 use Rattle.base.specs.Grounds.{told, Finds, Refuses, says, Check}
-use Rattle.std.specs.Prelude.{Ok, Err, None}
+use Rattle.std.specs.Prelude.{Ok, Err, Some, None}
 use Rattle.base.specs.declared.Ground.{Ground}
 use Rattle.base.proofs.Grounds.{Ordered, said_found, said_refused_lem, no_refusal}
 use Rattle.base.proofs.Lists.{clash}
 use Rattle.rooms.specs.Rooms.{sheet, written}
 use Rattle.rooms.proofs.Sheets.{sheet_length}
-use Rattle.writing.specs.Put.{Put}
+use Rattle.writing.specs.Written.{Fits, Writes}
+use Rattle.writing.specs.declared.Writer.{Writer}
 use Rattle.writing.specs.Writing.{question, hyphenated}
-use Rattle.writing.proofs.Going.{put_as}
+use Rattle.writing.proofs.Parts.{fits_as, written_as}
 use Rattle.writing.proofs.Laws.{word_short, marks_front}
 use Rattle.words.specs.Symbols.{line_feed, hyphen}
 use Rattle.words.proofs.Laws.{letters_fit}
@@ -66,8 +66,8 @@ line_short word size = go (judge1980 word size) refl
     go (Ok _) e = rw (finding word size e) (outcome_short (machine budget1980 word) word (letters_few word size e))
     go (Err g) e = rw (refusal word size e) (omega (arith, told_short question (told g).number (told g).list (told g).place))
 
-pub line_fits : (word : List ℕ) (size at n : ℕ) → at + line_limit1980 ≤ n → at + length (reprint_line word size) ≤ n
-line_fits word size at n h = omega (arith, line_short word size)
+pub line_fits : (word : List ℕ) (size : ℕ) (w : Writer) → w.at + line_limit1980 ≤ length w.room.now → Fits (reprint_line word size) w
+line_fits word size w h = omega (arith, h, line_short word size)
 
 -- what the machine came to, by the values of its answer
 record Ran (o : Outcome) (executed : ℕ) : Type 0 where
@@ -120,14 +120,14 @@ module _ (word marks : List ℕ) {r : Answer1980} {after : List ℕ} (promise : 
     unfolding shown
     found_line = rw (← found_said, ran.same, hyphens)
 
-    pub found_fits : (at n : ℕ) → at + length (reprint_line word (length marks)) ≤ n → at + length (hyphenated (hyphen ∷ []) after word ++ (line_feed ∷ [])) ≤ n
-    found_fits at n h = rw found_line h
+    pub found_fits : (w : Writer) → Fits (reprint_line word (length marks)) w → Fits (hyphenated (hyphen ∷ []) after word ++ (line_feed ∷ [])) w
+    found_fits w h = fits_as w (sym found_line) h
 
-    pub found_reprinted : {at end : ℕ} {room filled : List ℕ} → Put (hyphenated (hyphen ∷ []) after word ++ (line_feed ∷ [])) at room end filled
-        → Reprinted word marks room at (record { end = end; summed = executed; refused = false }) after filled
+    pub found_reprinted : {before filled : Writer} → Writes (hyphenated (hyphen ∷ []) after word ++ (line_feed ∷ [])) before filled
+        → Reprinted word marks before (Some executed) after filled
     found_reprinted p =
         record {
-          line = put_as (sym found_line) p;
+          line = written_as (sym found_line) p;
           executed = rw (← found_said, ran.same);
           told = rw (← found_said, ran.same);
           memory = promise.memory;
@@ -141,14 +141,14 @@ module _ (word marks : List ℕ) {r : Answer1980} {after : List ℕ} (promise : 
     out : machine budget1980 word ≡ RanOut
     out = out_by (length word) (machine budget1980 word) (out_said ∙ finding word (length marks) (found_fine word (length marks) out_said))
 
-    pub out_fits : (at n : ℕ) → at + length (reprint_line word (length marks)) ≤ n → at + length (told_line question 0 0 0) ≤ n
-    out_fits at n h = rw (← out_said, out) at h
+    pub out_fits : (w : Writer) → Fits (reprint_line word (length marks)) w → Fits (told_line question 0 0 0) w
+    out_fits w h = rw (← out_said, out) at h
 
-    pub out_reprinted : {at end : ℕ} {room filled : List ℕ} → Put (told_line question 0 0 0) at room end filled
-        → Reprinted word marks room at (record { end = end; summed = 0; refused = true }) after filled
+    pub out_reprinted : {before filled : Writer} → Writes (told_line question 0 0 0) before filled
+        → Reprinted word marks before None after filled
     out_reprinted p =
         record {
-          line = put_as (rw (← out_said, out)) p;
+          line = written_as (rw (← out_said, out)) p;
           executed = rw (← out_said, out);
           told = rw (← out_said, out);
           memory = promise.memory;
@@ -159,14 +159,14 @@ module _ (word marks : List ℕ) {r : Answer1980} {after : List ℕ} (promise : 
     unfolding said1980
     refused_said = ap said1980 (sym e) ∙ promise.answered
 
-    pub refused_fits : (at n : ℕ) → at + length (reprint_line word (length marks)) ≤ n → at + length (refusal_line question g) ≤ n
-    refused_fits at n h = rw (← refused_said) at h
+    pub refused_fits : (w : Writer) → Fits (reprint_line word (length marks)) w → Fits (refusal_line question g) w
+    refused_fits w h = rw (← refused_said) at h
 
-    pub refused_reprinted : {at end : ℕ} {room filled : List ℕ} → Put (refusal_line question g) at room end filled
-        → Reprinted word marks room at (record { end = end; summed = 0; refused = true }) after filled
+    pub refused_reprinted : {before filled : Writer} → Writes (refusal_line question g) before filled
+        → Reprinted word marks before None after filled
     refused_reprinted p =
         record {
-          line = put_as (rw (← refused_said)) p;
+          line = written_as (rw (← refused_said)) p;
           executed = rw (← refused_said);
           told = rw (← refused_said);
           memory = promise.memory;

@@ -1,15 +1,15 @@
 -- The lines that `archive` writes.
-use Rattle.std.specs.Prelude.{ℕ, ◌+◌, ◌*◌, Bool, true, false, List, [], ◌∷◌, ◌++◌, ◌≡◌, length}
+use Rattle.std.specs.Prelude.{ℕ, Bool, true, false, List, [], ◌∷◌, ◌++◌, ◌≡◌, length, Option}
 use Rattle.base.specs.Limits.{word_limit1980, budget1980}
 use Rattle.base.specs.Grounds.{Said, Finds, Refuses}
-use Rattle.writing.specs.Put.{Put}
+use Rattle.writing.specs.Written.{Writes}
+use Rattle.writing.specs.declared.Writer.{Writer}
 use Rattle.writing.specs.Writing.{space, question, hyphenated}
 use Rattle.words.specs.Symbols.{line_feed, hyphen}
-use Rattle.report.specs.Report.{told_line}
+use Rattle.report.specs.Report.{told_line, line_limit_of, summed, refused}
 use Rattle.machine1980.specs.Run.{Outcome, RanOut, Marked, machine}
 use Rattle.machine1980.specs.Breaks.{break_sheet}
 use Rattle.machine1980.specs.Calls.{answer1980, room1980}
-use Rattle.report.specs.declared.Line.{Line}
 
 -- The line of a word that isn't refused: the word with its breaks. "Ran out", which no word does (machine1980.proofs.Theorems), is
 -- told as a refusal on no ground.
@@ -46,15 +46,15 @@ instructions_label = space ∷ 105 ∷ 110 ∷ 115 ∷ 116 ∷ 114 ∷ 117 ∷ 9
 
 -- Every line of a word fits into this many bytes: its letters, as many hyphens at most, and the line feed.
 abbrev pub line_limit1980 : ℕ
-line_limit1980 = 2 * word_limit1980 + 2
+line_limit1980 = line_limit_of word_limit1980
 
 -- The line of a word, with a break room of this size.
 abbrev pub reprint_line : List ℕ → ℕ → List ℕ
 reprint_line word size = said_line (answer1980 budget1980 word size) (machine budget1980 word) word
 
 -- What is put and returned for a word, and what is left in the break room.
-pub record Reprinted (word marks room : List ℕ) (at : ℕ) (r : Line) (marks_after after : List ℕ) : Type 0 where
-  pub line : Put (reprint_line word (length marks)) at room r.end after
-  pub executed : r.summed ≡ said_executed (answer1980 budget1980 word (length marks)) (machine budget1980 word)
-  pub told : r.refused ≡ said_refused (answer1980 budget1980 word (length marks)) (machine budget1980 word)
+pub record Reprinted (word marks : List ℕ) (before : Writer) (r : Option ℕ) (marks_after : List ℕ) (after : Writer) : Type 0 where
+  pub line : Writes (reprint_line word (length marks)) before after
+  pub executed : summed r ≡ said_executed (answer1980 budget1980 word (length marks)) (machine budget1980 word)
+  pub told : refused r ≡ said_refused (answer1980 budget1980 word (length marks)) (machine budget1980 word)
   pub memory : marks_after ≡ room1980 budget1980 word marks

@@ -2,20 +2,17 @@
 // word's line is made is the program's own.
 #![tactic(auto)]
 
-mod state;
-
 ghost use Rattle.std.specs.Prelude.{◌≡◌, ℕ, ◌+◌, ◌≤◌, length};
-ghost use Rattle.spool.specs.State.{Holds};
+ghost use Rattle.spool.specs.State.{Grows, Holds, label_limit, piece};
 
 use console::Stream;
-use report::Line;
-use state::{Stage, State};
 use std::io::Read;
+use writing::Writer;
 
-// A piece of the words is as large as the buffer that it is read into, and so is a piece of the lines.
+// A piece of the words is as large as the buffer that it is read into, and so is a piece of the lines (specs/State.antt, piece).
 const PIECE: usize = 65536;
 
-// The last line has fewer bytes.
+// The last line has no more bytes, its label at most label_limit of them (specs/State.antt).
 const SUMS_LIMIT: usize = 128;
 
 // How a program breaks a word.
@@ -32,12 +29,150 @@ pub trait Breaker {
     fn name() -> &'static [u8];
 
     fn label() -> &'static [u8]
-        ensures { length result.now ≤ 51 };
+        ensures { length result.now ≤ label_limit };
 
-    // Makes the line of a word.
-    fn put_word(&self, word: &[u8], marks: &mut [u8], room: &mut [u8], at: usize) -> Line
-        requires { (ROOM_SIZE ≤ length marks.old) × (at + LINE_LIMIT ≤ length room.old) }
-        ensures { result.end ≤ length room.new };
+    // Makes the line of a word. Answers what the word adds to the sum, nothing where it is refused.
+    fn put_word(&self, word: &[u8], marks: &mut [u8], w: &mut Writer) -> Option<usize>
+        requires { (ROOM_SIZE ≤ length marks.old) × (w.old.at + LINE_LIMIT ≤ length w.old.room.now) }
+        ensures { Grows w.old w.new };
+}
+
+// Whether there is more to be read, and what became of it where not: all of it was read, reading failed, or a line could not be written.
+#[derive(Clone, Copy, PartialEq, Eq)]
+enum Stage {
+    Reading,
+    Ended,
+    Unread,
+    Lost,
+}
+
+// How far the words have come: bytes of the present line that are held, a break room, lines not yet written, and the sums.
+#[derive(Drop)]
+struct Spool<'a, B: Breaker> {
+    breaker: &'a B,
+    held: Writer<'a>,
+    marks: &'a mut [u8],
+    out: Writer<'a>,
+    words: u64,
+    refused: u64,
+    sum: u64,
+    stage: Stage,
+}
+
+impl<'a, B: Breaker> Spool<'a, B> {
+    // Begins the words.
+    fn new(
+        breaker: &'a B,
+        held: &'a mut [u8],
+        marks: &'a mut [u8],
+        out: &'a mut [u8],
+    ) -> Spool<'a, B>
+        requires { (B.ROOM_SIZE ≤ length marks.old) × (B.LINE_LIMIT ≤ length out.old) }
+        ensures { Holds B.ROOM_SIZE B.LINE_LIMIT result }
+    {
+        Spool {
+            breaker,
+            held: Writer::new(held),
+            marks,
+            out: Writer::new(out),
+            words: 0,
+            refused: 0,
+            sum: 0,
+            stage: Stage::Reading,
+        }
+    }
+
+    // Writes the lines that are ready where another might not fit behind them.
+    fn make_space(&mut self, rt: &HostRuntime)
+        requires { Holds B.ROOM_SIZE B.LINE_LIMIT self.old }
+        ensures holds { Holds B.ROOM_SIZE B.LINE_LIMIT self.new }
+        ensures roomy { self.new.out.at + B.LINE_LIMIT ≤ length self.new.out.room.now }
+    {
+        if self.out.room.len() - self.out.at < B::line_limit() {
+            self.stage = write_lines::<B>(rt, self.out.written(), self.stage);
+            self.out.at = 0;
+        }
+    }
+
+    // The line has ended: its word's line is made ready.
+    fn end_line(&mut self, rt: &HostRuntime)
+        requires { Holds B.ROOM_SIZE B.LINE_LIMIT self.old }
+        ensures { Holds B.ROOM_SIZE B.LINE_LIMIT self.new }
+    {
+        self.make_space(rt);
+        match self
+            .breaker
+            .put_word(self.held.written(), self.marks, &mut self.out)
+        {
+            Some(summed) => self.sum = self.sum.wrapping_add(summed as u64),
+            None => self.refused = self.refused.wrapping_add(1),
+        }
+        self.words = self.words.wrapping_add(1);
+        self.held.at = 0;
+    }
+
+    // One byte of the words. Only the first bytes of a line are held: where it has more of them than a word may have, they show it.
+    fn take_byte(&mut self, rt: &HostRuntime, b: u8)
+        requires { Holds B.ROOM_SIZE B.LINE_LIMIT self.old }
+        ensures { Holds B.ROOM_SIZE B.LINE_LIMIT self.new }
+    {
+        if b == words::LINE_FEED {
+            self.end_line(rt);
+        } else if self.held.at < self.held.room.len() {
+            self.held.put_byte(b);
+        }
+    }
+
+    // A piece of the words.
+    fn take_piece(&mut self, rt: &HostRuntime, piece: &[u8])
+        requires { Holds B.ROOM_SIZE B.LINE_LIMIT self.old }
+        ensures { Holds B.ROOM_SIZE B.LINE_LIMIT self.new }
+    {
+        for b in piece {
+            self.take_byte(rt, *b);
+        }
+    }
+
+    // Reads a piece of the words, if there is one.
+    fn read_piece(&mut self, rt: &HostRuntime)
+        requires { Holds B.ROOM_SIZE B.LINE_LIMIT self.old }
+        ensures { Holds B.ROOM_SIZE B.LINE_LIMIT self.new }
+    {
+        let mut buffer = [0u8; PIECE];
+        match rt.stdin().read(&mut buffer) {
+            Ok(0) => self.stage = Stage::Ended,
+            Ok(n) => self.take_piece(rt, &buffer[..n]),
+            Err(e) => {
+                console::tell(rt, B::name(), b"standard input", e);
+                self.stage = Stage::Unread;
+            }
+        }
+    }
+
+    // All words, up to the end of the input. What is held then is the last word, unless reading failed: nobody knows how that word goes
+    // on. A proved loop has to end, and nothing says that the input does: so its turns are counted, up to a number that no run reaches.
+    fn take_words(&mut self, rt: &HostRuntime)
+        requires { Holds B.ROOM_SIZE B.LINE_LIMIT self.old }
+        ensures { Holds B.ROOM_SIZE B.LINE_LIMIT self.new }
+    {
+        for _ in 0..u64::MAX {
+            self.read_piece(rt);
+            if self.stage != Stage::Reading {
+                break;
+            }
+        }
+        if self.held.at > 0 && self.stage != Stage::Unread {
+            self.end_line(rt);
+        }
+    }
+
+    // The last line.
+    fn print_sums(&self, rt: &HostRuntime) {
+        let mut line = [0u8; SUMS_LIMIT];
+        let mut w = Writer::new(&mut line);
+        report::put_sums(self.words, self.refused, B::label(), self.sum, &mut w);
+        write_lines::<B>(rt, w.written(), self.stage);
+    }
 }
 
 // Writes lines. Behind a lost one nothing is written any more: what is cut short has no gap inside.
@@ -54,163 +189,16 @@ fn write_lines<B: Breaker>(rt: &HostRuntime, lines: &[u8], stage: Stage) -> Stag
     }
 }
 
-// Writes the lines that are ready where another might not fit behind them.
-fn make_space<B: Breaker>(rt: &HostRuntime, out: &[u8], s: State) -> State
-    requires { (s.at ≤ length out.now) × (B.LINE_LIMIT ≤ length out.now) }
-    ensures { result.at + B.LINE_LIMIT ≤ length out.now }
-{
-    if out.len() - s.at < B::line_limit() {
-        return State {
-            at: 0,
-            stage: write_lines::<B>(rt, &out[..s.at], s.stage),
-            ..s
-        };
-    }
-    s
-}
-
-// The line has ended: its word's line is made ready. The three rooms are lent one by one, since a lent slice keeps its length by itself;
-// of a struct of them each call would have to promise it.
-fn end_line<B: Breaker>(
-    rt: &HostRuntime,
-    breaker: &B,
-    held: &[u8],
-    marks: &mut [u8],
-    out: &mut [u8],
-    s: State,
-) -> State
-    requires { Holds B.ROOM_SIZE B.LINE_LIMIT s held.now marks.old out.old }
-    ensures { Holds B.ROOM_SIZE B.LINE_LIMIT result held.now marks.new out.new }
-{
-    let n = s.held;
-    let space = make_space::<B>(rt, out, s);
-    let line = breaker.put_word(&held[..n], marks, out, space.at);
-    State {
-        held: 0,
-        at: line.end,
-        words: s.words.wrapping_add(1),
-        refused: s.refused.wrapping_add(u64::from(line.refused)),
-        sum: s.sum.wrapping_add(line.summed as u64),
-        stage: space.stage,
-    }
-}
-
-// One byte of the words. Only the first bytes of a line are held: where it has more of them than a word may have, they show it.
-fn take_byte<B: Breaker>(
-    rt: &HostRuntime,
-    breaker: &B,
-    b: u8,
-    held: &mut [u8],
-    marks: &mut [u8],
-    out: &mut [u8],
-    s: State,
-) -> State
-    requires { Holds B.ROOM_SIZE B.LINE_LIMIT s held.old marks.old out.old }
-    ensures { Holds B.ROOM_SIZE B.LINE_LIMIT result held.new marks.new out.new }
-{
-    if b == words::LINE_FEED {
-        return end_line(rt, breaker, held, marks, out, s);
-    }
-    let mut next = s;
-    let n = s.held;
-    if n < held.len() {
-        held[n] = b;
-        next.held = n + 1;
-    }
-    next
-}
-
-// A piece of the words.
-fn take_piece<B: Breaker>(
-    rt: &HostRuntime,
-    breaker: &B,
-    piece: &[u8],
-    held: &mut [u8],
-    marks: &mut [u8],
-    out: &mut [u8],
-    s: State,
-) -> State
-    requires { Holds B.ROOM_SIZE B.LINE_LIMIT s held.old marks.old out.old }
-    ensures { Holds B.ROOM_SIZE B.LINE_LIMIT result held.new marks.new out.new }
-{
-    let mut next = s;
-    for b in piece {
-        next = take_byte(rt, breaker, *b, held, marks, out, next);
-    }
-    next
-}
-
-// Reads a piece of the words, if there is one.
-fn read_piece<B: Breaker>(
-    rt: &HostRuntime,
-    breaker: &B,
-    held: &mut [u8],
-    marks: &mut [u8],
-    out: &mut [u8],
-    s: State,
-) -> State
-    requires { Holds B.ROOM_SIZE B.LINE_LIMIT s held.old marks.old out.old }
-    ensures { Holds B.ROOM_SIZE B.LINE_LIMIT result held.new marks.new out.new }
-{
-    let mut buffer = [0u8; PIECE];
-    match rt.stdin().read(&mut buffer) {
-        Ok(0) => State {
-            stage: Stage::Ended,
-            ..s
-        },
-        Ok(n) => take_piece(rt, breaker, &buffer[..n], held, marks, out, s),
-        Err(e) => {
-            console::tell(rt, B::name(), b"standard input", e);
-            State {
-                stage: Stage::Unread,
-                ..s
-            }
-        }
-    }
-}
-
-// All words, up to the end of the input. What is held then is the last word, unless reading failed: nobody knows how that word goes
-// on. A proved loop has to end, and nothing says that the input does: so its turns are counted, up to a number that no run reaches.
-fn take_words<B: Breaker>(
-    rt: &HostRuntime,
-    breaker: &B,
-    held: &mut [u8],
-    marks: &mut [u8],
-    out: &mut [u8],
-    s: State,
-) -> State
-    requires { Holds B.ROOM_SIZE B.LINE_LIMIT s held.old marks.old out.old }
-    ensures { Holds B.ROOM_SIZE B.LINE_LIMIT result held.new marks.new out.new }
-{
-    let mut next = s;
-    for _ in 0..u64::MAX {
-        next = read_piece(rt, breaker, held, marks, out, next);
-        if next.stage != Stage::Reading {
-            break;
-        }
-    }
-    if next.held > 0 && next.stage != Stage::Unread {
-        next = end_line(rt, breaker, held, marks, out, next);
-    }
-    next
-}
-
-// The last line.
-fn print_sums<B: Breaker>(rt: &HostRuntime, s: State) {
-    let mut line = [0u8; SUMS_LIMIT];
-    let end = report::put_sums(s.words, s.refused, B::label(), s.sum, &mut line, 0);
-    write_lines::<B>(rt, &line[..end], s.stage);
-}
-
 // All words, with room for the bytes of a line that are held, and a break room. Without the last line the words were not all read or
 // written.
 pub fn print_words<B: Breaker>(rt: &HostRuntime, breaker: &B, held: &mut [u8], marks: &mut [u8])
-    requires { (B.ROOM_SIZE ≤ length marks.old) × (B.LINE_LIMIT ≤ 65536) }
+    requires { (B.ROOM_SIZE ≤ length marks.old) × (B.LINE_LIMIT ≤ piece) }
 {
     let mut out = [0u8; PIECE];
-    let end = take_words(rt, breaker, held, marks, &mut out, state::new());
-    match write_lines::<B>(rt, &out[..end.at], end.stage) {
-        Stage::Reading | Stage::Ended => print_sums::<B>(rt, end),
+    let mut spool = Spool::new(breaker, held, marks, &mut out);
+    spool.take_words(rt);
+    match write_lines::<B>(rt, spool.out.written(), spool.stage) {
+        Stage::Reading | Stage::Ended => spool.print_sums(rt),
         Stage::Unread | Stage::Lost => (),
     }
 }

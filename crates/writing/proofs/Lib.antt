@@ -1,2 +1,4 @@
 pub mod Going
 pub mod Laws
+pub mod Parts
+pub mod Decimal

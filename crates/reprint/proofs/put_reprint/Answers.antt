@@ -4,13 +4,13 @@ use Rattle.reprint.proofs.Lines.{found_marks, found_fits, found_reprinted, out_f
 use Rattle.reprint.proofs.put_reprint.Goals as goal
 
 pub put_line-requires : goal.put_line-requires
-put_line-requires c = (found_marks c.args.word.now c.args.marks.now c.hyphenate_1980.ensures (c.in-Ok.is ∙ ap Ok c.in-Some.is), found_fits c.args.word.now c.args.marks.now c.hyphenate_1980.ensures (c.in-Ok.is ∙ ap Ok c.in-Some.is) _ _ c.requires)
+put_line-requires c = (found_marks c.args.word.now c.args.marks.now c.hyphenate_1980.ensures (c.in-Ok.is ∙ ap Ok c.in-Some.is), found_fits c.args.word.now c.args.marks.now c.hyphenate_1980.ensures (c.in-Ok.is ∙ ap Ok c.in-Some.is) c.args.w.now c.requires)
 
 pub put_told-requires : goal.put_told-requires
-put_told-requires c = out_fits c.args.word.now c.args.marks.now c.hyphenate_1980.ensures (c.in-Ok.is ∙ ap Ok c.in-None.is) _ _ c.requires
+put_told-requires c = out_fits c.args.word.now c.args.marks.now c.hyphenate_1980.ensures (c.in-Ok.is ∙ ap Ok c.in-None.is) c.args.w.now c.requires
 
 pub put_refusal-requires : goal.put_refusal-requires
-put_refusal-requires c = refused_fits c.args.word.now c.args.marks.now c.hyphenate_1980.ensures c.in-Err.is _ _ c.requires
+put_refusal-requires c = refused_fits c.args.word.now c.args.marks.now c.hyphenate_1980.ensures c.in-Err.is c.args.w.now c.requires
 
 pub returns-in-Some : goal.returns-in-Some
 returns-in-Some c = found_reprinted _ _ c.hyphenate_1980.ensures (c.in-Ok.is ∙ ap Ok c.in-Some.is) c.put_line.ensures
