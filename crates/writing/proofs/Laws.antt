@@ -11,8 +11,10 @@ use lib.ListN.{length, take, drop, length-append}
 use lib.Seq.{drop-drop, sets-eq}
 use borrow.Rule.Slice.PartMut.{put_mid}
 use Rattle.writing.specs.Put.{Put}
-use Rattle.writing.specs.Writing.{space, last_digit, digits, decimal, field, counted, letter_with, hyphenated}
-use Rattle.writing.proofs.Going.{Going, go_fits, go_step, first_fits, second_fits, both_put}
+use Rattle.writing.specs.Writing.{last_digit, digits, field, counted, letter_with, hyphenated}
+use Rattle.writing.specs.Written.{Fits, Writes}
+use Rattle.writing.specs.declared.Writer.{Writer}
+use Rattle.writing.proofs.Parts.{Going, go_fits, go_step}
 
 -- digits
 pub digits_one : (more n : ℕ) → more ≡ 0 → digits more n ≡ last_digit n
@@ -24,79 +26,33 @@ unfolding digits
 digits_small zero n h = refl
 digits_small (suc more) n h = rw (lt-ltb n 10 h)
 
-digits_more : (more n : ℕ) → (more ≡ 0 → ⊥) → 10 ≤ n → digits more n ≡ digits (more - 1) (n / 10) ++ last_digit n
+pub digits_more : (more n : ℕ) → (more ≡ 0 → ⊥) → 10 ≤ n → digits more n ≡ digits (more - 1) (n / 10) ++ last_digit n
 unfolding digits
 digits_more zero n z h = absurd (z refl)
 digits_more (suc more) n z h = let e : suc more - 1 ≡ more = omega arith in rw (le-ltb n 10 h, e)
-
-module _ (more n at : ℕ) (room : List ℕ) (z : more ≡ 0 → ⊥) (t : 10 ≤ n) (h : at + length (digits more n) ≤ length room) where
-  pub digits_fit : at + length (digits (more - 1) (n / 10)) ≤ length room
-  digits_fit = first_fits (digits (more - 1) (n / 10)) (last_digit n) (digits_more more n z t) at room h
-
-  module _ {end : ℕ} {now : List ℕ} (p : Put (digits (more - 1) (n / 10)) at room end now) where
-    pub last_fits : end + 1 ≤ length now
-    last_fits = second_fits (digits (more - 1) (n / 10)) (last_digit n) (digits_more more n z t) at room h p
-
-    pub digits_put : {next : ℕ} {after : List ℕ} → Put (last_digit n) end now next after → Put (digits more n) at room next after
-    digits_put = both_put (digits (more - 1) (n / 10)) (last_digit n) (digits_more more n z t) at room h p
-
--- a space and a number
-module _ (n at : ℕ) (room : List ℕ) (h : at + length (field n) ≤ length room) where
-  pub space_fits : at + 1 ≤ length room
-  space_fits = first_fits (space ∷ []) (decimal n) refl at room h
-
-  module _ {end : ℕ} {now : List ℕ} (p : Put (space ∷ []) at room end now) where
-    pub decimal_fits : end + length (decimal n) ≤ length now
-    decimal_fits = second_fits (space ∷ []) (decimal n) refl at room h p
-
-    pub field_put : {next : ℕ} {after : List ℕ} → Put (decimal n) end now next after → Put (field n) at room next after
-    field_put = both_put (space ∷ []) (decimal n) refl at room h p
-
--- a label and a number
-module _ (label : List ℕ) (n at : ℕ) (room : List ℕ) (h : at + length (counted label n) ≤ length room) where
-  pub label_fits : at + length label ≤ length room
-  label_fits = first_fits label (field n) refl at room h
-
-  module _ {end : ℕ} {now : List ℕ} (p : Put label at room end now) where
-    pub count_fits : end + length (field n) ≤ length now
-    count_fits = second_fits label (field n) refl at room h p
-
-    pub counted_put : {next : ℕ} {after : List ℕ} → Put (field n) end now next after → Put (counted label n) at room next after
-    counted_put = both_put label (field n) refl at room h p
 
 -- a letter
 pub letter_plain : (sign : List ℕ) (mark b : ℕ) → mark ≡ 0 → letter_with sign mark b ≡ b ∷ []
 letter_plain sign mark b e = rw (eq-eqb mark 0 e)
 
-letter_marked : (sign : List ℕ) (mark b : ℕ) → (mark ≡ 0 → ⊥) → letter_with sign mark b ≡ sign ++ (b ∷ [])
+pub letter_marked : (sign : List ℕ) (mark b : ℕ) → (mark ≡ 0 → ⊥) → letter_with sign mark b ≡ sign ++ (b ∷ [])
 letter_marked sign mark b e = rw (ne_eqb mark 0 e)
 
-module _ (sign : List ℕ) (mark b at : ℕ) (room : List ℕ) (z : mark ≡ 0 → ⊥) (h : at + length (letter_with sign mark b) ≤ length room) where
-  pub sign_fits : at + length sign ≤ length room
-  sign_fits = first_fits sign (b ∷ []) (letter_marked sign mark b z) at room h
-
-  module _ {end : ℕ} {now : List ℕ} (p : Put sign at room end now) where
-    pub letter_fits : end + 1 ≤ length now
-    letter_fits = second_fits sign (b ∷ []) (letter_marked sign mark b z) at room h p
-
-    pub letter_put : {next : ℕ} {after : List ℕ} → Put (b ∷ []) end now next after → Put (letter_with sign mark b) at room next after
-    letter_put = both_put sign (b ∷ []) (letter_marked sign mark b z) at room h p
-
 -- a word, where these marks and letters are left
-module _ (sign : List ℕ) {left word : List ℕ} (mark b : ℕ) (marks letters : List ℕ) (e : left ≡ mark ∷ marks) (f : word ≡ b ∷ letters) where
-  word_turn : hyphenated sign left word ≡ letter_with sign mark b ++ hyphenated sign marks letters
+module _ (sign : List ℕ) {left word : List ℕ} (mark letter : ℕ) (marks letters : List ℕ) (e : left ≡ mark ∷ marks) (f : word ≡ letter ∷ letters) where
+  word_turn : hyphenated sign left word ≡ letter_with sign mark letter ++ hyphenated sign marks letters
   unfolding hyphenated
   word_turn = rw (e, f)
 
   pub marks_enough : length word ≤ length left → length letters ≤ length marks
   marks_enough h = omega (arith, h, ap length e, ap length f)
 
-  module _ {whole : List ℕ} {at : ℕ} {room : List ℕ} {end : ℕ} (now : List ℕ) (g : Going whole at room (hyphenated sign left word) end now) where
-    pub word_fits : end + length (letter_with sign mark b) ≤ length now
-    word_fits = go_fits now (letter_with sign mark b) (hyphenated sign marks letters) word_turn g
+  module _ {whole : List ℕ} {a b : Writer} (g : Going whole a (hyphenated sign left word) b) where
+    pub word_fits : Fits (letter_with sign mark letter) b
+    word_fits = go_fits (letter_with sign mark letter) (hyphenated sign marks letters) word_turn g
 
-    pub word_step : {next : ℕ} {after : List ℕ} → Put (letter_with sign mark b) end now next after → Going whole at room (hyphenated sign marks letters) next after
-    word_step = go_step now (letter_with sign mark b) (hyphenated sign marks letters) word_turn g
+    pub word_step : {c : Writer} → Writes (letter_with sign mark letter) b c → Going whole a (hyphenated sign marks letters) c
+    word_step = go_step (letter_with sign mark letter) (hyphenated sign marks letters) word_turn g
 
 pub word_end : (sign marks word : List ℕ) → length word ≡ 0 → hyphenated sign marks word ≡ []
 unfolding hyphenated

@@ -1,5 +1,0 @@
-use Rattle.writing.proofs.Laws.{text_put}
-use Rattle.writing.proofs.put_text.Goals as goal
-
-pub returns : goal.returns
-returns c = text_put _ _ _ c.requires c.copy_from_slice.ensures.after
