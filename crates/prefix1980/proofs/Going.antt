@@ -1,74 +1,86 @@
--- The loop over the machine: one law for each way through it.
-use Prim.Native.Nat.{ℕ, zero, suc, ◌+◌, ◌*◌, ◌<◌}
+-- The machine in turns: what it leaves is what the definition says, and it stays on the sheet.
+use Prim.Native.Nat.{ℕ, zero, suc, ◌+◌, ◌*◌, ◌<◌, ◌≤◌}
 use mathlib.Core.List.{List}
 use mathlib.Core.Path.{◌≡◌, refl, sym, ◌∙◌, ap, subst}
 use native.Mathlib.Omega.{arith}
-use Rattle.std.specs.Prelude.{Some, None}
+use Rattle.std.proofs.Common.{Option, Some, None, Continue, Break}
+use Rattle.sheet1980.specs.declared.Stopped as machine
 use Rattle.tables1980.specs.Prefix.{prefix}
 use Rattle.sheet1980.specs.Sheet.{u, mem, Sheet}
+use Rattle.turns1980.specs.Turns.{Left, turns, Runs}
+use Rattle.turns1980.proofs.Kept.{Kept, Stood, runs, stood}
+use Rattle.middle1980.specs.Middles.{Goto, Phase5}
 use Rattle.middle1980.specs.Joined.{Step, Placed}
 use Rattle.middle1980.specs.Joined as middle
-use Rattle.prefix1980.specs.Prefixes.{Prefixes, Interpp, Stops, decode, restartp, interpp, RanOut, Stopped, prefixes, phase3}
-use Rattle.prefix1980.specs.declared.Instruction.{Instruction}
-use Rattle.prefix1980.specs.declared.Row.{Row}
+use Rattle.prefix1980.specs.Prefixes.{Prefixes, Interpp, Stops, decode, restartp, interpp, prefixes, phase3}
+use Rattle.prefix1980.specs.Joined.{Turn, joined, apart, can_step, step_gives, told, Ready}
 use Rattle.prefix1980.proofs.Rows.{row_sound_lem}
-use Rattle.prefix1980.proofs.Ends.{Fine, Begins, cost, step_fine, begin_fine}
+use Rattle.prefix1980.proofs.Ends.{Begins, Fine, cost, step_fine, begin_fine}
 
-abbrev at_row : Row → List ℕ → Prefixes
-at_row r sheet = Interpp r.i r.pc r.c r.j sheet
+joins : (x : Prefixes) → joined (apart x).0 (apart x).1 ≡ x
+joins (Interpp i pc c j sheet) = refl
+joins (Stops (Goto label i b c sheet)) = refl
+joins (Stops (Phase5 sheet)) = refl
 
--- the machine from here on, and why it stays on the sheet
-pub record Going (budget n : ℕ) (whole : List ℕ) (left : ℕ) (row : Row) (sheet : List ℕ) : Type 0 where
-  pub rest : phase3 budget whole ≡ prefixes left (at_row row sheet)
-  pub bound : ℕ
-  pub fine : Fine n bound (at_row row sheet)
+pub parts : (at : Turn) (sheet : List ℕ) {x : Prefixes} → joined at sheet ≡ x → (at, sheet) ≡ apart x
+parts (Continue r) sheet p = ap apart p
+parts (Break (Some at)) sheet p = ap apart p
+parts (Break None) sheet p = ap apart p
 
-pub start : (budget n : ℕ) (s : List ℕ) {c : ℕ} → Sheet n s → 4 < n → c ≡ mem s (u + 1) → Going budget n s budget (record { i = u + 2; pc = c; c = c; j = u + 1 }) s
-unfolding phase3
-start budget n s {c} k h p =
-    record {
-      rest = ap (λ (x : Prefixes). prefixes budget x) same;
-      bound = 8 * n + 9;
-      fine = subst (λ (x : Prefixes). Fine n (8 * n + 9) x) same (begin_fine n (8 * n + 9) (u + 2) (mem s (u + 1)) s k (k.codes (u + 1)) (omega arith) (omega arith) (omega arith));
-    }
-  where
-    same : restartp (u + 2) (mem s (u + 1)) s ≡ Interpp (u + 2) c c (u + 1) s
-    same = rw p
+-- The definition in turns.
+in_turns : (budget : ℕ) (at : Turn) (sheet : List ℕ) → told (turns step_gives budget at sheet).0 (turns step_gives budget at sheet).1 ≡ prefixes budget (joined at sheet)
+unfolding turns prefixes
+in_turns zero (Break on) sheet = refl
+in_turns zero (Continue r) sheet = refl
+in_turns (suc budget) (Break on) sheet = refl
+in_turns (suc budget) (Continue r) sheet =
+    in_turns budget (step_gives r sheet).0 (step_gives r sheet).1
+    ∙ ap (λ (x : Prefixes). prefixes budget x) (joins (interpp r.i r.c r.j sheet (decode (prefix r.pc))))
 
-split : {n : ℕ} (y : Step) (sheet : List ℕ) → Begins n (middle.joined y sheet) → Sheet n sheet × Placed n y
-split (Some at) sheet p = p
-split None sheet p = (p, tt)
+-- What every turn keeps.
+abbrev Stands : ℕ → Turn → List ℕ → Type 0
+Stands n at sheet = (m : ℕ) × Fine n m (joined at sheet)
 
-module _ (budget n : ℕ) (whole : List ℕ) (left : ℕ) (r : Row) (sheet : List ℕ) (g : Going budget n whole left r sheet) where
-  pub out : left ≡ 0 → RanOut ≡ phase3 budget whole
-  unfolding prefixes
-  out h = sym (g.rest ∙ ap (λ k. prefixes k (at_row r sheet)) h)
+kept : (n : ℕ) → n ≤ 63 → Kept can_step step_gives (Stands n)
+kept n hi = record {
+  allows = λ r sheet s. (omega (arith, hi, s.1.1.last), s.1.1.kept.codes r.i);
+  keeps = λ r sheet s.
+      let x = decode (prefix r.pc) in
+      let less = cost n s.1.0 r.pc in (
+        less,
+        subst (λ (y : Prefixes). Fine n less y) (sym (joins (interpp r.i r.c r.j sheet x)))
+            (step_fine n s.1.0 r.i r.pc r.c r.j sheet s.1.1 x (row_sound_lem r.pc s.1.1.row)),
+      );
+}
 
-  -- an instruction executed
-  module _ {more w : ℕ} {x : Instruction} (less : left ≡ suc more) (p : w ≡ prefix r.pc) (q : x ≡ decode w) where
-    same : (y : Prefixes) → y ≡ interpp r.i r.c r.j sheet x → interpp r.i r.c r.j sheet (decode (prefix r.pc)) ≡ y
-    same y k = sym (k ∙ ap (λ (z : Instruction). interpp r.i r.c r.j sheet z) (q ∙ ap decode p))
+module _ (budget n : ℕ) (s : List ℕ) {c : ℕ} (k : Sheet n s) (lo : 4 < n) (hi : n ≤ 63) (p : c ≡ mem s (u + 1)) where
+  -- the row that the machine begins with
+  abbrev pub first : Turn
+  first = Continue (record { i = u + 2; pc = c; c = c; j = u + 1 })
 
-    rests : (y : Prefixes) → y ≡ interpp r.i r.c r.j sheet x → phase3 budget whole ≡ prefixes more y
-    unfolding prefixes
-    rests y k = g.rest ∙ ap (λ z. prefixes z (at_row r sheet)) less ∙ ap (λ (z : Prefixes). prefixes more z) (same y k)
+  same : restartp (u + 2) (mem s (u + 1)) s ≡ joined first s
+  same = rw p
 
-    fines : (y : Prefixes) → y ≡ interpp r.i r.c r.j sheet x → Fine n (cost n g.fine.0 r.pc) y
-    fines y k =
-        subst (λ (z : Prefixes). Fine n (cost n g.fine.0 r.pc) z) (same y k)
-        (step_fine n g.fine.0 r.i r.pc r.c r.j sheet g.fine.1 (decode (prefix r.pc)) (row_sound_lem r.pc g.fine.1.row))
+  stands : Stands n first s
+  stands =
+      let m = 8 * n + 9 in
+      (m, subst (λ (x : Prefixes). Fine n m x) same (begin_fine n m (u + 2) (mem s (u + 1)) s k (k.codes (u + 1)) (omega arith) (omega arith) (omega arith)))
 
-    pub turned : (next : Row) (after : List ℕ) → at_row next after ≡ interpp r.i r.c r.j sheet x → Going budget n whole more next after
-    turned next after k = record { rest = rests (at_row next after) k; bound = cost n g.fine.0 r.pc; fine = fines (at_row next after) k }
+  pub may_run : Runs can_step step_gives budget first s
+  may_run = runs (kept n hi) budget first s stands
 
-    module _ (on : Step) (after : List ℕ) (k : Stops (middle.joined on after) ≡ interpp r.i r.c r.j sheet x) where
-      pub stopped : Stopped more (middle.joined on after) ≡ phase3 budget whole
-      unfolding prefixes
-      stopped = sym (rests (Stops (middle.joined on after)) k ∙ all more)
-        where
-          all : (k : ℕ) → prefixes k (Stops (middle.joined on after)) ≡ Stopped k (middle.joined on after)
-          all zero = refl
-          all (suc k) = refl
+  module _ {r : Option (machine.Stopped Step)} {after : List ℕ} (e : (r, after) ≡ turns step_gives budget first s) where
+    pub told_all : told r after ≡ phase3 budget s
+    unfolding phase3
+    told_all = ap (λ (x : Left (Option (machine.Stopped Step))). told x.0 x.1) e ∙ in_turns budget first s ∙ ap (λ (x : Prefixes). prefixes budget x) (sym same)
 
-      pub ready : Sheet n after × Placed n on
-      ready = split on after (fines (Stops (middle.joined on after)) k).0
+    pub ready : Ready n r after
+    ready = ends r (stood (kept n hi) budget first s stands e)
+      where
+        split : (on : Step) → Begins n (middle.joined on after) → Sheet n after × Placed n on
+        split (Some at) b = b
+        split None b = (b, tt)
+
+        ends : (r : Option (machine.Stopped Step)) → Stood (Stands n) r after → Ready n r after
+        ends None s = tt
+        ends (Some stopped) s = split stopped.next s.1.0

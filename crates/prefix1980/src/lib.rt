@@ -7,12 +7,13 @@ ghost use Rattle.base.specs.Limits.{word_limit1980, short_word1980};
 ghost use Rattle.tables1980.specs.Words.{◌ε◌};
 ghost use Rattle.sheet1980.specs.Sheet.{place_bound, mem, clear, Sheet};
 ghost use Rattle.prefix1980.specs.Prefixes.{decode, reenter, interpp, phase3};
-ghost use Rattle.prefix1980.specs.Joined.{joined, told, Ready};
+ghost use Rattle.prefix1980.specs.Joined.{joined, can_step, step_gives, told, Ready};
 
 use middle1980::{Goto, Label, Step};
 use sheet1980::{Stopped, U, clear_at, code_at};
 use std::ops::ControlFlow::{self, Break, Continue};
 use tables1980::{has_bit, prefix_table, word_at};
+use turns1980::Machine;
 
 // An instruction word taken apart: operand, truex and falsex, as far as its opcode uses them; a table's whole word.
 #[derive(Clone, Copy)]
@@ -114,7 +115,7 @@ fn mark_back(t: u16, i: usize, sheet: &mut [u8])
 // One instruction.
 #[tactic(auto, unfolding(crate::specs::Prefixes::interpp))]
 fn interpret(at: Row, sheet: &mut [u8], x: Instruction) -> Turn
-    requires { (at.i ≤ place_bound) × (mem sheet.old at.i ≤ 26) }
+    requires { can_step at sheet.old }
     ensures { joined result sheet.new ≡ interpp at.i at.c at.j sheet.old x }
 {
     match x {
@@ -157,6 +158,25 @@ fn interpret(at: Row, sheet: &mut [u8], x: Instruction) -> Turn
     }
 }
 
+// Phase 3 on a word's sheet.
+#[derive(Clone, Copy)]
+struct Phase3;
+
+impl Machine for Phase3 {
+    type Row = Row;
+
+    type End = Step;
+
+    ghost can_step = { λ _ at sheet. can_step at sheet };
+
+    ghost step_gives = { λ _ at sheet. step_gives at sheet };
+
+    fn step(&self, at: Row, sheet: &mut [u8]) -> Turn {
+        let x = Instruction::from(word_at(prefix_table(), at.pc));
+        interpret(at, sheet, x)
+    }
+}
+
 // Removes the prefixes of a word of n letters, each word fetched taking one instruction of the budget: None where one more instruction is
 // needed than there is budget for; else it goes on with the step to take.
 pub fn remove_prefixes(budget: usize, n: usize, sheet: &mut [u8]) -> Option<Stopped<Step>>
@@ -164,20 +184,12 @@ pub fn remove_prefixes(budget: usize, n: usize, sheet: &mut [u8]) -> Option<Stop
     ensures answer { told result sheet.new ≡ phase3 budget sheet.old }
     ensures place { Ready n result sheet.new }
 {
-    let mut left = budget;
-    let first = code_at(sheet, U + 1);
-    let mut row = Row {
+    let c = code_at(sheet, U + 1);
+    let first = Row {
         i: U + 2,
-        pc: first as usize,
-        c: first,
+        pc: c as usize,
+        c,
         j: U + 1,
     };
-    loop {
-        left = left.checked_sub(1)?;
-        let x = Instruction::from(word_at(prefix_table(), row.pc));
-        match interpret(row, sheet, x) {
-            Continue(next) => row = next,
-            Break(step) => return Some(Stopped { left, next: step }),
-        }
-    }
+    turns1980::run(&Phase3, budget, first, sheet)
 }

@@ -1,69 +1,78 @@
--- The loop over the machine: one law for each way through it.
-use Prim.Native.Nat.{ℕ, zero, suc, ◌+◌, ◌*◌, ◌-◌, ◌<◌}
+-- The machine in turns: what it leaves is what the definition says, and it stays on the sheet.
+use Prim.Native.Nat.{ℕ, zero, suc, ◌+◌, ◌*◌, ◌-◌, ◌<◌, ◌≤◌}
 use mathlib.Core.Bool.{true}
 use mathlib.Core.List.{List}
 use mathlib.Core.Path.{◌≡◌, refl, sym, ◌∙◌, ap, subst}
 use native.Mathlib.Omega.{arith}
+use Rattle.std.proofs.Common.{Option, Some, None, Continue, Break}
+use Rattle.sheet1980.specs.declared.Stopped as machine
 use Rattle.tables1980.specs.Suffix.{suffix}
 use Rattle.sheet1980.specs.Sheet.{u, mem, Sheet}
-use Rattle.suffix1980.specs.Suffixes.{infinity, Suffixes, Interps, Phase3, decode, final_at, sufbegin, interps, RanOut, Stopped, suffixes, phase2}
-use Rattle.suffix1980.specs.declared.Instruction.{Instruction}
-use Rattle.suffix1980.specs.declared.Row.{Row}
+use Rattle.turns1980.specs.Turns.{Left, turns, Runs}
+use Rattle.turns1980.proofs.Kept.{Kept, Stood, runs, stood}
+use Rattle.suffix1980.specs.Suffixes.{infinity, Suffixes, Interps, Phase3, decode, final_at, sufbegin, interps, suffixes, phase2}
+use Rattle.suffix1980.specs.Joined.{Turn, joined, apart, can_step, step_gives, told, Ready}
 use Rattle.suffix1980.proofs.Rows.{row_sound_lem}
-use Rattle.suffix1980.proofs.Ends.{Fine, cost, ed, step_fine, begin_fine}
+use Rattle.suffix1980.proofs.Ends.{Fine, cost, ed, step_fine, begin_fine, place_stays}
 
-abbrev at_row : Row → List ℕ → Suffixes
-at_row r sheet = Interps r.i r.pc r.firsttime r.finale sheet
+joins : (x : Suffixes) → joined (apart x).0 (apart x).1 ≡ x
+joins (Interps i pc firsttime finale sheet) = refl
+joins (Phase3 finale sheet) = refl
 
--- the machine from here on, and why it stays on the sheet
-pub record Going (budget n : ℕ) (whole : List ℕ) (left : ℕ) (row : Row) (sheet : List ℕ) : Type 0 where
-  pub rest : phase2 budget n whole ≡ suffixes left n (at_row row sheet)
-  pub bound : ℕ
-  pub fine : Fine n bound (at_row row sheet)
+pub parts : (at : Turn) (sheet : List ℕ) {x : Suffixes} → joined at sheet ≡ x → (at, sheet) ≡ apart x
+parts (Continue r) sheet p = ap apart p
+parts (Break finale) sheet p = ap apart p
 
-pub start : (budget n : ℕ) (s : List ℕ) {i pc last : ℕ} → Sheet n s → 4 < n → i ≡ u + n - 1 → pc ≡ mem s (i + 1) → last ≡ final_at i pc infinity
-    → Going budget n s budget (record { i = i; pc = pc; firsttime = true; finale = last }) s
-unfolding phase2
-start budget n s {i} {pc} {last} k lo a p q =
-    record {
-      rest = ap (λ x. suffixes budget n x) same;
-      bound = suc (12 + 12 * (u + n - 1 - u + ed n s));
-      fine = subst (λ x. Fine n (suc (12 + 12 * (u + n - 1 - u + ed n s))) x) same
-          (begin_fine n (suc (12 + 12 * (u + n - 1 - u + ed n s))) (u + n - 1) true infinity s k (omega arith) (omega arith) (λ z. omega arith) (omega arith));
-    }
-  where
-    same : sufbegin (u + n - 1) true infinity s ≡ Interps i pc true last s
-    same = rw (q, p, a)
+-- The definition in turns.
+in_turns : (budget n : ℕ) (at : Turn) (sheet : List ℕ) → told (turns (step_gives n) budget at sheet).0 (turns (step_gives n) budget at sheet).1 ≡ suffixes budget n (joined at sheet)
+unfolding turns suffixes
+in_turns zero n (Break finale) sheet = refl
+in_turns zero n (Continue r) sheet = refl
+in_turns (suc budget) n (Break finale) sheet = refl
+in_turns (suc budget) n (Continue r) sheet =
+    in_turns budget n (step_gives n r sheet).0 (step_gives n r sheet).1
+    ∙ ap (λ x. suffixes budget n x) (joins (interps n r.i r.firsttime r.finale sheet (decode (suffix r.pc))))
 
-module _ (budget n : ℕ) (whole : List ℕ) (left : ℕ) (r : Row) (sheet : List ℕ) (g : Going budget n whole left r sheet) where
-  pub out : left ≡ 0 → RanOut ≡ phase2 budget n whole
-  unfolding suffixes
-  out h = sym (g.rest ∙ ap (λ k. suffixes k n (at_row r sheet)) h)
+-- What every turn keeps.
+abbrev Stands : ℕ → Turn → List ℕ → Type 0
+Stands n at sheet = (m : ℕ) × Fine n m (joined at sheet)
 
-  -- an instruction executed
-  module _ {more w : ℕ} {x : Instruction} (less : left ≡ suc more) (p : w ≡ suffix r.pc) (q : x ≡ decode w) where
-    same : (y : Suffixes) → y ≡ interps n r.i r.firsttime r.finale sheet x → interps n r.i r.firsttime r.finale sheet (decode (suffix r.pc)) ≡ y
-    same y k = sym (k ∙ ap (λ (z : Instruction). interps n r.i r.firsttime r.finale sheet z) (q ∙ ap decode p))
+kept : (n : ℕ) → 4 < n → n ≤ 63 → Kept (λ r sheet. can_step n r) (step_gives n) (Stands n)
+kept n lo hi = record {
+  allows = λ r sheet s. (lo, hi, omega (arith, place_stays s.1.1), omega (arith, s.1.1.near, s.1.1.last));
+  keeps = λ r sheet s.
+      let x = decode (suffix r.pc) in
+      let less = cost n s.1.0 r.pc sheet in (
+        less,
+        subst (λ (y : Suffixes). Fine n less y) (sym (joins (interps n r.i r.firsttime r.finale sheet x)))
+            (step_fine n s.1.0 r.i r.pc r.firsttime r.finale sheet s.1.1 x (row_sound_lem r.pc s.1.1.row)),
+      );
+}
 
-    rests : (y : Suffixes) → y ≡ interps n r.i r.firsttime r.finale sheet x → phase2 budget n whole ≡ suffixes more n y
-    unfolding suffixes
-    rests y k = g.rest ∙ ap (λ z. suffixes z n (at_row r sheet)) less ∙ ap (λ (z : Suffixes). suffixes more n z) (same y k)
+module _ (budget n : ℕ) (s : List ℕ) {pc last : ℕ} (k : Sheet n s) (lo : 4 < n) (hi : n ≤ 63) (p : pc ≡ mem s (u + n - 1 + 1)) (q : last ≡ final_at (u + n - 1) pc infinity) where
+  -- the row that the machine begins with
+  abbrev pub first : Turn
+  first = Continue (record { i = u + n - 1; pc = pc; firsttime = true; finale = last })
 
-    fines : (y : Suffixes) → y ≡ interps n r.i r.firsttime r.finale sheet x → Fine n (cost n g.fine.0 r.pc sheet) y
-    fines y k =
-        subst (λ (z : Suffixes). Fine n (cost n g.fine.0 r.pc sheet) z) (same y k)
-        (step_fine n g.fine.0 r.i r.pc r.firsttime r.finale sheet g.fine.1 (decode (suffix r.pc)) (row_sound_lem r.pc g.fine.1.row))
+  same : sufbegin (u + n - 1) true infinity s ≡ joined first s
+  same = rw (q, p)
 
-    pub turned : (next : Row) (after : List ℕ) → at_row next after ≡ interps n r.i r.firsttime r.finale sheet x → Going budget n whole more next after
-    turned next after k = record { rest = rests (at_row next after) k; bound = cost n g.fine.0 r.pc sheet; fine = fines (at_row next after) k }
+  stands : Stands n first s
+  stands =
+      let m = suc (12 + 12 * (u + n - 1 - u + ed n s)) in
+      (m, subst (λ x. Fine n m x) same (begin_fine n m (u + n - 1) true infinity s k (omega arith) (omega arith) (λ z. omega arith) (omega arith)))
 
-    pub stopped : (finale : ℕ) (after : List ℕ) → Phase3 finale after ≡ interps n r.i r.firsttime r.finale sheet x → Stopped more finale after ≡ phase2 budget n whole
-    unfolding suffixes
-    stopped finale after k = sym (rests (Phase3 finale after) k ∙ all more)
+  pub may_run : Runs (λ r sheet. can_step n r) (step_gives n) budget first s
+  may_run = runs (kept n lo hi) budget first s stands
+
+  module _ {r : Option (machine.Stopped ℕ)} {after : List ℕ} (e : (r, after) ≡ turns (step_gives n) budget first s) where
+    pub told_all : told r after ≡ phase2 budget n s
+    unfolding phase2
+    told_all = ap (λ (x : Left (Option (machine.Stopped ℕ))). told x.0 x.1) e ∙ in_turns budget n first s ∙ ap (λ x. suffixes budget n x) (sym same)
+
+    pub ready : Ready n r after
+    ready = ends r (stood (kept n lo hi) budget first s stands e)
       where
-        all : (k : ℕ) → suffixes k n (Phase3 finale after) ≡ Stopped k finale after
-        all zero = refl
-        all (suc k) = refl
-
-    pub kept : (finale : ℕ) (after : List ℕ) → Phase3 finale after ≡ interps n r.i r.firsttime r.finale sheet x → Sheet n after
-    kept finale after k = (fines (Phase3 finale after) k).0
+        ends : (r : Option (machine.Stopped ℕ)) → Stood (Stands n) r after → Ready n r after
+        ends None s = tt
+        ends (Some stopped) s = s.1.0

@@ -7,11 +7,12 @@ ghost use Rattle.tables1980.specs.Words.{o, ◌ε◌};
 ghost use Rattle.tables1980.specs.Suffix.{suffix};
 ghost use Rattle.sheet1980.specs.Sheet.{u, place_bound, mem, clear, Sheet};
 ghost use Rattle.suffix1980.specs.Suffixes.{decode, final_at, restarts, marksuf, interps, phase2};
-ghost use Rattle.suffix1980.specs.Joined.{joined, Branched, told, Ready};
+ghost use Rattle.suffix1980.specs.Joined.{joined, Branched, can_step, step_gives, told, Ready};
 
 use sheet1980::{Stopped, U, clear_at, code_at};
 use std::ops::ControlFlow::{self, Break, Continue};
 use tables1980::{has_bit, suffix_table, word_at};
+use turns1980::Machine;
 
 // An instruction word taken apart: operand, truex and falsex, as far as its opcode uses them.
 #[derive(Clone, Copy)]
@@ -183,7 +184,7 @@ fn mark_letter(t: u16, firsttime: bool, i: usize, sheet: &mut [u8])
 // One instruction.
 #[tactic(auto, unfolding(crate::specs::Suffixes::interps))]
 fn interpret(n: usize, at: Row, sheet: &mut [u8], x: Instruction) -> Turn
-    requires { (short_word1980 < n) × (n ≤ word_limit1980) × (1 ≤ at.i) × (at.i ≤ u + n) }
+    requires { can_step n at }
     ensures { joined result sheet.new ≡ interps n at.i at.firsttime at.finale sheet.old x }
 {
     match x {
@@ -221,6 +222,27 @@ fn interpret(n: usize, at: Row, sheet: &mut [u8], x: Instruction) -> Turn
     }
 }
 
+// Phase 2 on the sheet of a word of n letters.
+#[derive(Clone, Copy)]
+struct Phase2 {
+    n: usize,
+}
+
+impl Machine for Phase2 {
+    type Row = Row;
+
+    type End = usize;
+
+    ghost can_step = { λ m at _. can_step m.n at };
+
+    ghost step_gives = { λ m at sheet. step_gives m.n at sheet };
+
+    fn step(&self, at: Row, sheet: &mut [u8]) -> Turn {
+        let x = Instruction::from(word_at(suffix_table(), at.pc));
+        interpret(self.n, at, sheet, x)
+    }
+}
+
 // Removes the suffixes of a word of n letters, each word fetched taking one instruction of the budget: None where one more instruction is
 // needed than there is budget for; else it goes on with finale.
 pub fn remove_suffixes(budget: usize, n: usize, sheet: &mut [u8]) -> Option<Stopped<usize>>
@@ -228,21 +250,13 @@ pub fn remove_suffixes(budget: usize, n: usize, sheet: &mut [u8]) -> Option<Stop
     ensures answer { told result sheet.new ≡ phase2 budget n sheet.old }
     ensures kept { Ready n result sheet.new }
 {
-    let mut left = budget;
     let i = U + n - 1;
     let pc = code_at(sheet, i + 1) as usize;
-    let mut row = Row {
+    let first = Row {
         i,
         pc,
         firsttime: true,
         finale: final_at(i, pc, INFINITY),
     };
-    loop {
-        left = left.checked_sub(1)?;
-        let x = Instruction::from(word_at(suffix_table(), row.pc));
-        match interpret(n, row, sheet, x) {
-            Continue(next) => row = next,
-            Break(finale) => return Some(Stopped { left, next: finale }),
-        }
-    }
+    turns1980::run(&Phase2 { n }, budget, first, sheet)
 }
