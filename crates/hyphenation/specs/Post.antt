@@ -3,13 +3,13 @@ use Rattle.std.specs.Prelude.{ℕ, ◌<◌, false, List, ◌≡◌, length, get_
 use Rattle.liang.specs.Breaks.{line_break, level_break}
 use Rattle.base.specs.Limits.{room_size}
 use Rattle.words.specs.Words.{inner}
-use Rattle.rooms.specs.Rooms.{sheet, written, bit}
+use Rattle.rooms.specs.Rooms.{sheet, bit}
 use Rattle.hyphenation.specs.Levels.{level_at}
 
--- A sheet written into the room, and a count of looks returned.
-pub record Done (bytes : List ℕ) (looks : ℕ) (room : List ℕ) (count : ℕ) (after : List ℕ) : Type 0 where
+-- A sheet put into the break room, which has just its bytes, and a count of looks returned.
+pub record Done (bytes : List ℕ) (looks : ℕ) (count : ℕ) (after : List ℕ) : Type 0 where
   pub counted : count ≡ looks
-  pub memory : after ≡ written room_size bytes room
+  pub memory : after ≡ bytes
 
 -- The breaks by an exception line alone, and by the levels alone.
 unfoldable pub line_sheet : ℕ → ℕ → ℕ → List ℕ → List ℕ

@@ -11,7 +11,7 @@ use lib.Seq.{take_all, take-nil, set_out}
 use Rattle.base.specs.Limits.{cell_limit, entry_limit}
 use Rattle.std.specs.Prelude.{Ok, Err, None, Some}
 use Rattle.base.specs.declared.Ground.TheVariants.{TableForm}
-use Rattle.table.specs.Table.{head_kind, edition, head_size, cell_size, number_at, put_number, cell_count, entry_count, formed, judge_table, cells_from, entries_from, behind, cells_of, entries_of, cells_place, entries_place, look, entry_at, hit, has, Look}
+use Rattle.table.specs.Table.{head_kind, edition, head_size, number_at, put_number, cell_count, entry_count, formed, judge_table, cells_from, entries_from, behind, look, entry_at, hit, has, Look}
 use Rattle.table.specs.Records.{two_bytes, head_bytes}
 
 -- the two bytes of a number as the library writes them
