@@ -18,7 +18,7 @@ use Rattle.words.specs.Words.{judge_word}
 use Rattle.table.specs.Table.{root_base, judge_table, cells_of, entries_of}
 use Rattle.hyphenation.specs.Levels.{level_sheet, word_looks}
 use Rattle.hyphenation.specs.Breaks.{break_sheet, break_looks}
-use Rattle.hyphenation.specs.Post.{Done}
+use Rattle.hyphenation.proofs.Rooms.{Done}
 use Rattle.hyphenation.specs.Calls.{judge_room, judge_margins, judge_levels, judge_hyphenate, judge_word_alone, Answered, Filled, LevelsFound, breaks_sheet, breaks_looks, BreaksFound, Answer, found}
 use Rattle.hyphenation.specs.declared.Found.{Found}
 

@@ -25,8 +25,17 @@ use Rattle.walk.specs.Post.{Walked}
 use Rattle.walk.proofs.Laws.{raises_length}
 use Rattle.walk.proofs.Raised.{raised_at}
 use Rattle.hyphenation.specs.Levels.{level_at, level_sheet, word_looks}
-use Rattle.hyphenation.specs.Post.{Done, line_sheet, odd_sheet, Inside}
+use Rattle.hyphenation.specs.Post.{line_sheet, Inside}
 use Rattle.hyphenation.proofs.Laws.{break_left, break_right, break_outer}
+
+-- a sheet put into the break room, which has just its bytes, and a count of looks returned.
+pub record Done (bytes : List ℕ) (looks : ℕ) (count : ℕ) (after : List ℕ) : Type 0 where
+  pub counted : count ≡ looks
+  pub memory : after ≡ bytes
+
+-- the breaks by the levels alone
+unfoldable pub odd_sheet : ℕ → ℕ → List ℕ → List ℕ → ℕ → List ℕ → List ℕ
+odd_sheet left right cells entries root word = sheet room_size (λ i. bit (level_break left right (length word) (level_at cells entries root word) i))
 
 -- bytes that are all of a break room, each by its number
 sheet_is : (f : ℕ → ℕ) (a : List ℕ) → length a ≡ room_size → ((i : ℕ) → i < room_size → get_or a i 0 ≡ f i) → a ≡ sheet room_size f

@@ -8,9 +8,8 @@ ghost use Rattle.words.specs.Words.{judge_word};
 ghost use Rattle.liang.specs.Breaks.{bad_margin, in_margins, level_break};
 ghost use Rattle.table.specs.Table.{cells_of, entries_of, root_base};
 ghost use Rattle.rooms.specs.Rooms.{sheet, bit};
-ghost use Rattle.hyphenation.specs.Levels.{word_looks};
 ghost use Rattle.hyphenation.specs.Breaks.{mark_hyphens};
-ghost use Rattle.hyphenation.specs.Post.{Done, line_sheet, odd_sheet, Inside};
+ghost use Rattle.hyphenation.specs.Post.{line_sheet, Inside};
 ghost use Rattle.hyphenation.specs.Calls.{room_grounds, margin_grounds, levels_grounds, hyphenate_grounds, word_alone_grounds, LevelsFound, Levels, BreaksFound, Breaks, WordBreaks};
 
 use base::Ground;
@@ -33,6 +32,24 @@ pub struct Setting<'a> {
     pub customer: &'a [u8],
     pub house: &'a [u8],
     pub table: &'a [u8],
+}
+
+// The margins of a word, and how many letters it has.
+#[derive(Clone, Copy)]
+struct Margins {
+    left: usize,
+    right: usize,
+    letters: usize,
+}
+
+impl Margins {
+    // Do they fit around gap i?
+    #[tactic(auto, unfolding(liang::specs::Breaks::in_margins))]
+    fn fit(self, i: usize) -> bool
+        ensures { result ≡ in_margins self.left self.right self.letters i }
+    {
+        self.left <= i && self.right <= self.letters.saturating_sub(i)
+    }
 }
 
 // Ground 5.
@@ -92,18 +109,10 @@ pub fn judge_hyphenate(setting: &Setting, word: &[u8], size: usize) -> Result<()
     table::judge_table(setting.table)
 }
 
-// Do the margins fit around gap i of n letters?
-#[tactic(auto, unfolding(liang::specs::Breaks::in_margins))]
-fn is_inside(left: usize, right: usize, n: usize, i: usize) -> bool
-    ensures { result ≡ in_margins left right n i }
-{
-    left <= i && right <= n.saturating_sub(i)
-}
-
-// Those hyphens of an exception line that count for a word of n letters, put into the room.
-#[tactic(auto, using(crate::proofs::Laws::mark_letter, crate::proofs::Laws::mark_hyphen, crate::proofs::Laws::mark_outside, crate::proofs::Laws::mark_far, crate::proofs::Laws::mark_end))]
-fn mark_line(left: usize, right: usize, n: usize, line: &[u8], room: &mut [u8; base::ROOM_SIZE])
-    ensures { room.new ≡ mark_hyphens (in_margins left right n) 0 line.now room.old }
+// Those hyphens of an exception line that count, put into the room.
+#[tactic(auto, using(crate::proofs::Laws::mark_outside, crate::proofs::Laws::mark_far, crate::proofs::Laws::mark_end))]
+fn mark_line(margins: Margins, line: &[u8], room: &mut [u8; base::ROOM_SIZE])
+    ensures { room.new ≡ mark_hyphens (in_margins margins.left margins.right margins.letters) 0 line.now room.old }
 {
     let mut gap: usize = 0;
     for b in line {
@@ -114,31 +123,24 @@ fn mark_line(left: usize, right: usize, n: usize, line: &[u8], room: &mut [u8; b
         if base::ROOM_SIZE <= gap {
             continue;
         }
-        if !is_inside(left, right, n, gap) {
+        if !margins.fit(gap) {
             continue;
         }
         room[gap] = 1;
     }
 }
 
-// The levels of a word of n letters put into a room as breaks: only gaps inside the margins are looked at.
-#[tactic(auto, using(crate::proofs::Rooms::breaks_start, crate::proofs::Rooms::breaks_turn, crate::proofs::Laws::break_odd))]
-fn put_breaks(
-    left: usize,
-    right: usize,
-    n: usize,
-    levels: &[u8; base::ROOM_SIZE],
-    room: &mut [u8; base::ROOM_SIZE],
-)
-    requires { (n ≤ word_limit) × Inside n levels.now }
-    ensures { room.new ≡ sheet room_size (λ i. bit (level_break left right n (λ k. get_or levels.now k 0) i)) }
+// The levels of a word put into a room as breaks: only gaps inside the margins are looked at.
+fn put_breaks(margins: Margins, levels: &[u8; base::ROOM_SIZE], room: &mut [u8; base::ROOM_SIZE])
+    requires { (margins.letters ≤ word_limit) × Inside margins.letters levels.now }
+    ensures { room.new ≡ sheet room_size (λ i. bit (level_break margins.left margins.right margins.letters (λ k. get_or levels.now k 0) i)) }
 {
     *room = [0; base::ROOM_SIZE];
-    if n < right {
+    if margins.letters < margins.right {
         return;
     }
-    let last = n - right;
-    for i in left..last + 1 {
+    let last = margins.letters - margins.right;
+    for i in margins.left..last + 1 {
         room[i] = levels[i] % 2;
     }
 }
@@ -152,39 +154,17 @@ fn find_levels(trie: &Trie, word: &Word, room: &mut [u8; base::ROOM_SIZE]) -> Fo
     Found { marks, looks }
 }
 
-// The breaks of a word of n letters by its exception line.
+// The breaks of a word by its exception line.
 #[tactic(auto, using(crate::proofs::Rooms::line_room))]
-fn put_line_breaks(
-    left: usize,
-    right: usize,
-    n: usize,
-    line: &[u8],
-    room: &mut [u8; base::ROOM_SIZE],
-)
-    ensures { room.new ≡ line_sheet left right n line.now }
+fn put_line_breaks(margins: Margins, line: &[u8], room: &mut [u8; base::ROOM_SIZE])
+    ensures { room.new ≡ line_sheet margins.left margins.right margins.letters line.now }
 {
     *room = [0; base::ROOM_SIZE];
-    mark_line(left, right, n, line, room);
-}
-
-// The breaks of a judged word by the levels, and the count of looks.
-#[tactic(auto, using(words::proofs::Laws::word_fits, crate::proofs::Rooms::raised_inside))]
-fn put_level_breaks(
-    left: usize,
-    right: usize,
-    trie: &Trie,
-    word: &Word,
-    room: &mut [u8; base::ROOM_SIZE],
-) -> usize
-    ensures { Done (odd_sheet left right trie.now.cells.now trie.now.entries.now trie.now.root word.now.bytes.now) (word_looks trie.now.cells.now trie.now.root word.now.bytes.now) result room.new }
-{
-    let mut levels = [0u8; base::ROOM_SIZE];
-    let looks = walk::walk_word(trie, word, &mut levels);
-    put_breaks(left, right, word.bytes.len(), &levels, room);
-    looks
+    mark_line(margins, line, room);
 }
 
 // The breaks of a judged word.
+#[tactic(auto, using(words::proofs::Laws::word_fits, crate::proofs::Rooms::raised_inside, lookup::proofs::Laws::customer_within, lookup::proofs::Laws::house_within))]
 fn find_breaks(setting: &Setting, word: &Word, room: &mut [u8; base::ROOM_SIZE]) -> Found
     ensures { BreaksFound setting.now.left setting.now.right word.now.bytes.now setting.now.customer.now setting.now.house.now (cells_of setting.now.table.now) (entries_of setting.now.table.now) root_base result room.new }
 {
@@ -195,17 +175,25 @@ fn find_breaks(setting: &Setting, word: &Word, room: &mut [u8; base::ROOM_SIZE])
         house,
         table,
     } = *setting;
+    let margins = Margins {
+        left,
+        right,
+        letters: word.bytes.len(),
+    };
     let looks = match lookup::find_either(word.bytes, customer, house) {
         Located::Customer { start, end } => {
-            put_line_breaks(left, right, word.bytes.len(), &customer[start..end], room);
+            put_line_breaks(margins, &customer[start..end], room);
             0 // a customer's line takes no look
         }
         Located::House { start, end } => {
-            put_line_breaks(left, right, word.bytes.len(), &house[start..end], room);
+            put_line_breaks(margins, &house[start..end], room);
             0 // nor does the house's
         }
         Located::Nowhere => {
-            put_level_breaks(left, right, &table::trie_of(table), word, room) // the walks' looks
+            let mut levels = [0u8; base::ROOM_SIZE];
+            let looks = walk::walk_word(&table::trie_of(table), word, &mut levels);
+            put_breaks(margins, &levels, room);
+            looks
         }
     };
     let marks = rooms::count_marks(&room[..], base::ROOM_SIZE);

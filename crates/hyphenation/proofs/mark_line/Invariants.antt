@@ -7,4 +7,4 @@ use Rattle.hyphenation.specs.Breaks.{mark_hyphens}
 use Rattle.hyphenation.proofs.mark_line.Given as goal
 
 abbrev pub invariant-loop-b : goal.invariant-loop-b
-invariant-loop-b l = (l.gap ≤ l.b-index) × (mark_hyphens (in_margins l.left l.right l.n) 0 l.line l.initial.room ≡ mark_hyphens (in_margins l.left l.right l.n) l.gap (drop l.b-index l.line) l.room)
+invariant-loop-b l = (l.gap ≤ l.b-index) × (mark_hyphens (in_margins l.margins.left l.margins.right l.margins.letters) 0 l.line l.initial.room ≡ mark_hyphens (in_margins l.margins.left l.margins.right l.margins.letters) l.gap (drop l.b-index l.line) l.room)

@@ -4,4 +4,4 @@ use Rattle.hyphenation.proofs.Rooms.{Broken}
 use Rattle.hyphenation.proofs.put_breaks.Given as goal
 
 abbrev pub invariant-loop-i : goal.invariant-loop-i
-invariant-loop-i l = (l.left ≤ l.i) × Broken l.left l.right l.n l.levels l.i l.room
+invariant-loop-i l = (l.fn.margins.left ≤ l.i) × Broken l.fn.margins.left l.fn.margins.right l.fn.margins.letters l.levels l.i l.room
