@@ -2,39 +2,18 @@
 use Prim.Native.Nat.{ℕ, ◌+◌, ◌-◌, ◌%◌, ◌≤◌, ◌<◌}
 use mathlib.Core.Bool.{Bool, true, false, ◌&&◌, and-false}
 use mathlib.Core.List.{List}
-use mathlib.Core.Path.{◌≡◌, refl, sym}
+use mathlib.Core.Path.{◌≡◌, refl}
 use native.Mathlib.Omega.{arith}
 use borrow.Author.Tests.{lt-leb, le-leb, lt-ltb, le-ltb, eq-eqb, ne_eqb, eqb-true, eqb-false}
-use lib.Dec.{leb, ltb, eqb}
+use lib.Dec.{leb, eqb}
 use lib.ListN.{length, get_or, drop, set, drop_of_length-le}
-use Rattle.base.specs.Limits.{room_size, margin_limit}
-use Rattle.std.specs.Prelude.{Ok, Err}
-use Rattle.base.specs.declared.Ground.TheVariants.{Margin, RoomShort}
+use Rattle.base.specs.Limits.{room_size}
 use Rattle.base.proofs.Lists.{cons_at}
 use Rattle.words.specs.Symbols.{hyphen}
 use Rattle.words.specs.Words.{inner}
-use Rattle.liang.specs.Breaks.{in_margins, odd, level_break, bad_margin}
-use Rattle.rooms.specs.Rooms.{is_short, bit}
+use Rattle.liang.specs.Breaks.{in_margins, odd, level_break}
+use Rattle.rooms.specs.Rooms.{bit}
 use Rattle.hyphenation.specs.Breaks.{mark_hyphens}
-use Rattle.hyphenation.specs.Calls.{judge_room, judge_margins}
-
--- a gap that the margins fit around
-module _ (left right n i : ℕ) where
-  pub inside_left : i < left → false ≡ in_margins left right n i
-  unfolding in_margins
-  inside_left l = rw (lt-leb left i l)
-
-  pub inside_past : left ≤ i → n < i → eqb right 0 ≡ in_margins left right n i
-  unfolding in_margins
-  inside_past l k = rw (le-leb left i l) (go (eqb right 0) refl)
-    where
-      go : (z : Bool) → eqb right 0 ≡ z → z ≡ leb right (n - i)
-      go true p = sym (le-leb right (n - i) (omega (arith, eqb-true right 0 p)))
-      go false p = let none : right ≡ 0 → ⊥ = eqb-false right 0 p in sym (lt-leb right (n - i) (omega arith))
-
-  pub inside_right : left ≤ i → leb right (n - i) ≡ in_margins left right n i
-  unfolding in_margins
-  inside_right l = rw (le-leb left i l)
 
 -- an exception line's hyphens
 module _ (counts : ℕ → Bool) where
@@ -93,34 +72,3 @@ module _ (left right n : ℕ) (level : ℕ → ℕ) (i : ℕ) where
       go true q true p = eqb-true (level i % 2) 1 p
       go true q false p = let r : level i % 2 ≡ 1 → ⊥ = eqb-false (level i % 2) 1 p in omega arith
       go false q z p = omega (arith, none q)
-
--- grounds 5 and 1
-module _ (size : ℕ) {short : Bool} (p : short ≡ is_short room_size size) where
-  pub room_short : short ≡ true → Err RoomShort ≡ judge_room size
-  unfolding judge_room
-  room_short q = rw (← p, q)
-
-  pub room_fine : short ≡ false → (Ok tt) ≡ judge_room size
-  unfolding judge_room
-  room_fine q = rw (← p, q)
-
-pub margin_none : (m : ℕ) → m < 1 → true ≡ bad_margin m
-unfolding bad_margin
-margin_none m h = rw (lt-ltb m 1 h)
-
-pub margin_some : (m : ℕ) → 1 ≤ m → ltb margin_limit m ≡ bad_margin m
-unfolding bad_margin
-margin_some m h = rw (le-ltb m 1 h)
-
-module _ (left right : ℕ) {a : Bool} (p : a ≡ bad_margin left) where
-  pub margins_left : a ≡ true → Err Margin ≡ judge_margins left right
-  unfolding judge_margins
-  margins_left q = rw (← p, q)
-
-  pub margins_right : {b : Bool} → a ≡ false → b ≡ bad_margin right → b ≡ true → Err Margin ≡ judge_margins left right
-  unfolding judge_margins
-  margins_right q r s = rw (← p, q, ← r, s)
-
-  pub margins_fine : {b : Bool} → a ≡ false → b ≡ bad_margin right → b ≡ false → (Ok tt) ≡ judge_margins left right
-  unfolding judge_margins
-  margins_fine q r s = rw (← p, q, ← r, s)

@@ -1,109 +1,84 @@
 -- What stands in a room at each byte: after settings are raised, after a line is marked, and in a sheet.
 use Prim.Native.Nat.{ℕ, zero, suc, ◌+◌, ◌-◌, ◌≤◌, ◌<◌}
 use mathlib.Core.Bool.{Bool, true, false, cond, ◌&&◌, and-false}
-use mathlib.Core.List.{List, [], ◌∷◌}
+use mathlib.Core.List.{List, [], ◌∷◌, append-nil}
 use mathlib.Core.Path.{◌≡◌, refl, sym, ◌∙◌, ap}
 use native.Mathlib.Decide.{dec_lt}
 use native.Mathlib.Omega.{arith}
-use borrow.Author.Tests.{lt-ltb, le-ltb, ltb-true}
-use lib.Dec.{leb, ltb, eqb}
-use lib.ListN.{length, get_or, take, drop, set, replicate, length-set}
-use lib.Seq.{paste, get_or-set_same, get_or-set_other}
-use Rattle.base.specs.Limits.{room_size, word_limit}
+use borrow.Author.Tests.{lt-ltb, ltb-true}
+use lib.Dec.{ltb, eqb}
+use lib.ListN.{length, get_or, take, drop, set, replicate, length-set, length-replicate, get_or-replicate}
+use lib.Seq.{get_or-set_same, get_or-set_other, take_all}
+use Rattle.base.specs.Limits.{room_size}
 use Rattle.rooms.specs.Rooms.{sheet_from, sheet, written, bit}
-use Rattle.rooms.proofs.Marks.{put_start, put_turn, put_end, put_cleared}
-use Rattle.rooms.proofs.Sheets.{sheet_same, written_length, written_low, written_high, written_is}
-use Rattle.rooms.proofs.Laws.{copied_sheet}
+use Rattle.rooms.proofs.Marks.{put_start, put_turn, put_end}
+use Rattle.rooms.proofs.Sheets.{sheet_same, take_sheet}
 use Rattle.words.specs.Symbols.{hyphen}
-use Rattle.words.specs.Words.{row_of, inner}
+use Rattle.words.specs.Words.{row_of}
 use Rattle.lookup.specs.Find.{find_either}
 use Rattle.lookup.specs.declared.Located.{Located}
 use Rattle.lookup.specs.declared.Located.TheVariants.{Customer, House, Nowhere}
 use Rattle.hyphenation.specs.Breaks.{break_by, is_break, mark_hyphens, break_sheet, unless_listed, break_looks}
 use Rattle.liang.specs.Breaks.{hyphen_at, in_margins, line_break, level_break}
-use Rattle.walk.specs.Chain.{Setting}
 use Rattle.walk.specs.Walk.{settings}
-use Rattle.walk.specs.Raise.{raise_all}
 use Rattle.walk.specs.Post.{Walked}
 use Rattle.walk.proofs.Laws.{raises_length}
 use Rattle.walk.proofs.Raised.{raised_at}
 use Rattle.hyphenation.specs.Levels.{level_at, level_sheet, word_looks}
-use Rattle.hyphenation.specs.Post.{Done, line_sheet, odd_sheet, Inside}
+use Rattle.hyphenation.specs.Post.{line_sheet, Inside}
 use Rattle.hyphenation.proofs.Laws.{break_left, break_right, break_outer}
 
--- the level room
-module _ (cells entries : List ℕ) (root : ℕ) (word room : List ℕ) (short : length word ≤ word_limit) (large : room_size ≤ length room) where
-  pub levels_room_lem : raise_all (length word) (settings cells entries root 0 (row_of word)) (written room_size (sheet room_size (λ i. 0)) room) ≡ written room_size (level_sheet cells entries root word) room
-  unfolding level_sheet
-  levels_room_lem =
-      written_is room_size (level_at cells entries root word) room (raise_all (length word) sets clean) large
-      (raises_length (length word) sets clean ∙ written_length room_size (λ i. 0) room large) low high
-    where
-      sets : List Setting
-      sets = settings cells entries root 0 (row_of word)
+-- a sheet put into the break room, which has just its bytes, and a count of looks returned.
+pub record Done (bytes : List ℕ) (looks : ℕ) (count : ℕ) (after : List ℕ) : Type 0 where
+  pub counted : count ≡ looks
+  pub memory : after ≡ bytes
 
-      clean : List ℕ
-      clean = written room_size (sheet room_size (λ i. 0)) room
+-- the breaks by the levels alone
+unfoldable pub odd_sheet : ℕ → ℕ → List ℕ → List ℕ → ℕ → List ℕ → List ℕ
+odd_sheet left right cells entries root word = sheet room_size (λ i. bit (level_break left right (length word) (level_at cells entries root word) i))
 
-      fits : (i : ℕ) → i < length room → i < length clean
-      fits i k = omega (arith, k, written_length room_size (λ i. 0) room large)
-
-      low : (i : ℕ) → i < room_size → get_or (raise_all (length word) sets clean) i 0 ≡ level_at cells entries root word i
-      low i k = unfold level_at in (raised_at (length word) sets clean i (fits i (omega arith)) ∙ omega (arith, written_low room_size (λ i. 0) room i k))
-
-      outside : (i : ℕ) → room_size ≤ i → inner (length word) i ≡ false
-      outside i k = unfold inner in rw (le-ltb i (length word) (omega arith)) (none (leb 1 i))
-        where
-          none : (z : Bool) → (z && false) ≡ false
-          none true = refl
-          none false = refl
-
-      high : (i : ℕ) → room_size ≤ i → i < length room → get_or (raise_all (length word) sets clean) i 0 ≡ get_or room i 0
-      high i k l = raised_at (length word) sets clean i (fits i l) ∙ rw (outside i k) (omega (arith, written_high room_size (λ i. 0) room i k))
-
-  pub levels_done : {count : ℕ} {after : List ℕ}
-      → Walked cells entries root (length word) (row_of word) (written room_size (sheet room_size (λ i. 0)) room) count after
-      → Done (level_sheet cells entries root word) (word_looks cells root word) room count after
-  unfolding word_looks
-  levels_done w = record { counted = w.counted; memory = w.raised ∙ levels_room_lem }
+-- bytes that are all of a break room, each by its number
+sheet_is : (f : ℕ → ℕ) (a : List ℕ) → length a ≡ room_size → ((i : ℕ) → i < room_size → get_or a i 0 ≡ f i) → a ≡ sheet room_size f
+sheet_is f a h at = sym (take_all room_size a (omega (arith, h))) ∙ take_sheet room_size a (omega (arith, h)) ∙ sheet_same room_size _ f at
 
 -- levels raised in an array of zeros
-module _ (cells entries : List ℕ) (root : ℕ) (word : List ℕ) (short : length word ≤ word_limit) {count : ℕ} {levels : List ℕ}
+module _ (cells entries : List ℕ) (root : ℕ) (word : List ℕ) {count : ℕ} {levels : List ℕ}
     (w : Walked cells entries root (length word) (row_of word) (replicate room_size 0) count levels) where
-  clean : written room_size (sheet room_size (λ i. 0)) (replicate room_size 0) ≡ replicate room_size 0
-  unfolding written sheet sheet_from
-  clean = refl
-
-  raised : Done (level_sheet cells entries root word) (word_looks cells root word) (replicate room_size 0) count levels
-  raised = levels_done cells entries root word (replicate room_size 0) short (omega arith) (rw clean w)
-
   raised_byte : (i : ℕ) → i < room_size → get_or levels i 0 ≡ level_at cells entries root word i
-  unfolding level_sheet
-  raised_byte i k = rw raised.memory (written_low room_size (level_at cells entries root word) (replicate room_size 0) i k)
+  unfolding level_at
+  raised_byte i k =
+      ap (λ (l : List ℕ). get_or l i 0) w.raised
+      ∙ raised_at (length word) (settings cells entries root 0 (row_of word)) (replicate room_size 0) i (omega (arith, k, length-replicate {A = ℕ} room_size 0))
+      ∙ omega (arith, get_or-replicate {A = ℕ} room_size i 0 0 k)
 
   pub raised_inside : Inside (length word) levels
   raised_inside i k e = raised_byte i k ∙ unfold level_at in rw e
 
-  pub levels_size : length levels ≡ room_size
-  unfolding level_sheet
-  levels_size = omega (arith, ap length raised.memory ∙ written_length room_size (level_at cells entries root word) (replicate room_size 0) (omega arith))
-
-  -- then put into the room as they are, or as breaks
-  pub levels_put : (room : List ℕ) {after : List ℕ} → after ≡ paste room 0 levels room_size → Done (level_sheet cells entries root word) (word_looks cells root word) room count after
-  unfolding level_sheet
-  levels_put room e =
+  -- they are the levels' sheet, or become breaks
+  pub levels_done : Done (level_sheet cells entries root word) (word_looks cells root word) count levels
+  unfolding level_sheet word_looks
+  levels_done =
       record {
-        counted = raised.counted;
-        memory = e ∙ copied_sheet room_size levels room (omega (arith, levels_size)) ∙ ap (λ (l : List ℕ). written room_size l room) (sheet_same room_size _ _ raised_byte);
+        counted = w.counted;
+        memory = sheet_is (level_at cells entries root word) levels (ap length w.raised ∙ raises_length _ _ _ ∙ length-replicate {A = ℕ} room_size 0) raised_byte;
       }
 
-  pub breaks_put : (left right : ℕ) (room : List ℕ) {after : List ℕ} → after ≡ written room_size (sheet room_size (λ i. bit (level_break left right (length word) (λ k. get_or levels k 0) i))) room
-      → Done (odd_sheet left right cells entries root word) (word_looks cells root word) room count after
-  unfolding odd_sheet
-  breaks_put left right room e = record { counted = raised.counted; memory = e ∙ ap (λ (l : List ℕ). written room_size l room) (sheet_same room_size _ _ same) }
+  pub breaks_put : (left right : ℕ) {after : List ℕ} → after ≡ sheet room_size (λ i. bit (level_break left right (length word) (λ k. get_or levels k 0) i))
+      → Done (odd_sheet left right cells entries root word) (word_looks cells root word) count after
+  unfolding odd_sheet word_looks
+  breaks_put left right e = record { counted = w.counted; memory = e ∙ sheet_same room_size _ _ same }
     where
       same : (i : ℕ) → i < room_size → bit (level_break left right (length word) (λ k. get_or levels k 0) i) ≡ bit (level_break left right (length word) (level_at cells entries root word) i)
       same i k = unfold level_break in rw (raised_byte i k)
+
+-- a sheet written into a room of just its bytes is all of it
+whole : (f : ℕ → ℕ) → written room_size (sheet room_size f) (replicate room_size 0) ≡ sheet room_size f
+unfolding written
+whole f = append-nil (sheet room_size f)
+
+cleared : replicate room_size 0 ≡ written room_size (sheet room_size (λ j. 0)) (replicate room_size 0)
+unfolding written sheet sheet_from
+cleared = refl
 
 -- breaks put in from the left margin up to the last gap that the right margin leaves
 module _ (left right n : ℕ) (levels : List ℕ) where
@@ -111,28 +86,23 @@ module _ (left right n : ℕ) (levels : List ℕ) where
   broken = level_break left right n (λ k. get_or levels k 0)
 
   -- the breaks below a gap
-  abbrev pub below : ℕ → ℕ → ℕ
-  below i j = bit (ltb j i && level_break left right n (λ k. get_or levels k 0) j)
+  abbrev pub Broken : ℕ → List ℕ → Type 0
+  Broken i room = room ≡ written room_size (sheet room_size (λ j. bit (ltb j i && level_break left right n (λ k. get_or levels k 0) j))) (replicate room_size 0)
 
   -- none stands left of the left margin
-  pub breaks_start : (d room : List ℕ) → room ≡ written room_size (sheet room_size (λ j. 0)) d → room ≡ written room_size (sheet room_size (below left)) room
-  breaks_start d room e = put_start room_size broken left d room (λ j h. break_left left right n (λ k. get_or levels k 0) j h) e
+  pub breaks_start : Broken left (replicate room_size 0)
+  breaks_start = put_start room_size broken left (replicate room_size 0) (replicate room_size 0) (λ j h. break_left left right n (λ k. get_or levels k 0) j h) cleared
 
-  pub breaks_turn : (i : ℕ) (d : List ℕ) {room : List ℕ} {x : ℕ} → room ≡ written room_size (sheet room_size (below i)) d → room_size ≤ length d → i < room_size → x ≡ bit (level_break left right n (λ k. get_or levels k 0) i)
-      → set room i x ≡ written room_size (sheet room_size (below (i + 1))) d
-  breaks_turn i d e large h q = put_turn room_size broken i d e large h q
+  pub breaks_turn : (i : ℕ) {room : List ℕ} {x : ℕ} → Broken i room → i < room_size → x ≡ bit (level_break left right n (λ k. get_or levels k 0) i) → Broken (i + 1) (set room i x)
+  breaks_turn i e h q = put_turn room_size broken i (replicate room_size 0) e (omega (arith, length-replicate {A = ℕ} room_size 0)) h q
 
   -- none stands right of the right margin
   none : (j : ℕ) → n < j + right → Dec (j < n) → broken j ≡ false
   none j h (yes k) = break_right left right n (λ k. get_or levels k 0) j (omega arith)
   none j h (no k) = break_outer left right n (λ k. get_or levels k 0) j (omega arith)
 
-  pub breaks_end : (i : ℕ) (d : List ℕ) {room : List ℕ} → room ≡ written room_size (sheet room_size (below i)) d → n < i + right → room ≡ written room_size (sheet room_size (λ j. bit (level_break left right n (λ k. get_or levels k 0) j))) d
-  breaks_end i d e h = put_end room_size broken i d (λ j l. none j (omega arith) (dec_lt j n)) e
-
-  pub breaks_cleared : {room after : List ℕ} (d : List ℕ) → room ≡ written room_size (sheet room_size (λ j. 0)) d
-      → after ≡ written room_size (sheet room_size (λ j. bit (level_break left right n (λ k. get_or levels k 0) j))) room → after ≡ written room_size (sheet room_size (λ j. bit (level_break left right n (λ k. get_or levels k 0) j))) d
-  breaks_cleared d e f = put_cleared room_size broken d e f
+  pub breaks_end : (i : ℕ) {room : List ℕ} → Broken i room → n < i + right → room ≡ sheet room_size (λ j. bit (level_break left right n (λ k. get_or levels k 0) j))
+  breaks_end i e h = put_end room_size broken i (replicate room_size 0) (λ j l. none j (omega arith) (dec_lt j n)) e ∙ whole _
 
 -- a line marked, byte by byte; `next` is the recursive call
 module _ (counts : ℕ → Bool) where
@@ -197,33 +167,26 @@ module _ (counts : ℕ → Bool) where
       go false y next step = rw on at (step (omega (arith, h)) (omega (arith, l)))
 
 -- the break room of an exception line
-pub line_room : (left right n : ℕ) (line room : List ℕ) → room_size ≤ length room
-    → mark_hyphens (in_margins left right n) 0 line (written room_size (sheet room_size (λ i. 0)) room) ≡ written room_size (line_sheet left right n line) room
+pub line_room : (left right n : ℕ) (line : List ℕ) → mark_hyphens (in_margins left right n) 0 line (replicate room_size 0) ≡ line_sheet left right n line
 unfolding line_sheet
-line_room left right n line room large =
-    written_is room_size (λ i. bit (line_break left right n line i)) room (mark_hyphens counts 0 line clean) large (mark_length counts 0 line clean ∙ written_length room_size (λ i. 0) room large) low high
+line_room left right n line =
+    sheet_is (λ i. bit (line_break left right n line i)) (mark_hyphens counts 0 line (replicate room_size 0)) (mark_length counts 0 line (replicate room_size 0) ∙ length-replicate {A = ℕ} room_size 0) marked
   where
     counts : ℕ → Bool
     counts = in_margins left right n
-
-    clean : List ℕ
-    clean = written room_size (sheet room_size (λ i. 0)) room
 
     as_bit : (z : Bool) → cond z 1 0 ≡ bit z
     as_bit true = refl
     as_bit false = refl
 
-    low : (i : ℕ) → i < room_size → get_or (mark_hyphens counts 0 line clean) i 0 ≡ bit (line_break left right n line i)
-    low i k =
+    marked : (i : ℕ) → i < room_size → get_or (mark_hyphens counts 0 line (replicate room_size 0)) i 0 ≡ bit (line_break left right n line i)
+    marked i k =
         let z : 0 + i ≡ i = omega arith in
-        rw z at (mark_here counts 0 line clean i (omega arith) (omega (arith, written_length room_size (λ i. 0) room large)))
-        ∙ rw (written_low room_size (λ i. 0) room i k) (unfold line_break in as_bit (in_margins left right n i && hyphen_at line i))
-
-    high : (i : ℕ) → room_size ≤ i → i < length room → get_or (mark_hyphens counts 0 line clean) i 0 ≡ get_or room i 0
-    high i k l = mark_kept counts 0 line clean i (λ q. k) ∙ written_high room_size (λ i. 0) room i k
+        rw z at (mark_here counts 0 line (replicate room_size 0) i (omega arith) (omega (arith, length-replicate {A = ℕ} room_size 0)))
+        ∙ rw (get_or-replicate {A = ℕ} room_size i 0 0 k) (unfold line_break in as_bit (in_margins left right n i && hyphen_at line i))
 
 -- the breaks, by where the word's line stands
-module _ (left right root : ℕ) (word customer house cells entries room : List ℕ) {at : Located} (p : at ≡ find_either word customer house) where
+module _ (left right root : ℕ) (word customer house cells entries : List ℕ) {at : Located} (p : at ≡ find_either word customer house) where
   breaks_by : {l : Located} → at ≡ l
       → break_sheet left right customer house cells entries root word
       ≡ sheet room_size (λ i. bit (break_by l customer house (line_break left right (length word)) (level_break left right (length word) (level_at cells entries root word)) i))
@@ -235,31 +198,26 @@ module _ (left right root : ℕ) (word customer house cells entries room : List 
   unfolding break_looks
   looks_by q = ap (λ (l : Located). unless_listed l (word_looks cells root word)) (sym p ∙ q)
 
-  pub by_customer : {start end : ℕ} {after : List ℕ} → at ≡ Customer start end → after ≡ written room_size (line_sheet left right (length word) (take (end - start) (drop start customer))) room
-      → Done (break_sheet left right customer house cells entries root word) (break_looks customer house cells root word) room 0 after
+  pub by_customer : {start end : ℕ} {after : List ℕ} → at ≡ Customer start end → after ≡ line_sheet left right (length word) (take (end - start) (drop start customer))
+      → Done (break_sheet left right customer house cells entries root word) (break_looks customer house cells root word) 0 after
   unfolding line_sheet
-  by_customer q r = record { counted = sym (looks_by q); memory = r ∙ ap (λ (l : List ℕ). written room_size l room) (sym (breaks_by q)) }
+  by_customer q r = record { counted = sym (looks_by q); memory = r ∙ sym (breaks_by q) }
 
-  pub by_house : {start end : ℕ} {after : List ℕ} → at ≡ House start end → after ≡ written room_size (line_sheet left right (length word) (take (end - start) (drop start house))) room
-      → Done (break_sheet left right customer house cells entries root word) (break_looks customer house cells root word) room 0 after
+  pub by_house : {start end : ℕ} {after : List ℕ} → at ≡ House start end → after ≡ line_sheet left right (length word) (take (end - start) (drop start house))
+      → Done (break_sheet left right customer house cells entries root word) (break_looks customer house cells root word) 0 after
   unfolding line_sheet
-  by_house q r = record { counted = sym (looks_by q); memory = r ∙ ap (λ (l : List ℕ). written room_size l room) (sym (breaks_by q)) }
+  by_house q r = record { counted = sym (looks_by q); memory = r ∙ sym (breaks_by q) }
 
-  pub by_levels : {count : ℕ} {after : List ℕ} → at ≡ Nowhere → Done (odd_sheet left right cells entries root word) (word_looks cells root word) room count after
-      → Done (break_sheet left right customer house cells entries root word) (break_looks customer house cells root word) room count after
+  pub by_levels : {count : ℕ} {after : List ℕ} → at ≡ Nowhere → Done (odd_sheet left right cells entries root word) (word_looks cells root word) count after
+      → Done (break_sheet left right customer house cells entries root word) (break_looks customer house cells root word) count after
   unfolding odd_sheet
-  by_levels q d = record { counted = d.counted ∙ sym (looks_by q); memory = d.memory ∙ ap (λ (l : List ℕ). written room_size l room) (sym (breaks_by q)) }
+  by_levels q d = record { counted = d.counted ∙ sym (looks_by q); memory = d.memory ∙ sym (breaks_by q) }
 
 -- the levels' way over a table's parts
-pub over_parts : (left right root : ℕ) (word : List ℕ) {looks : ℕ} {cells entries c e room after : List ℕ} → cells ≡ c → entries ≡ e
-    → Done (odd_sheet left right cells entries root word) (word_looks cells root word) room looks after → Done (odd_sheet left right c e root word) (word_looks c root word) room looks after
-over_parts left right root word p q d = rw (← p, ← q) d
+pub over_parts : (left right : ℕ) (word : List ℕ) {looks root r : ℕ} {cells entries c e after : List ℕ} → (cells ≡ c) × (entries ≡ e) × (root ≡ r)
+    → Done (odd_sheet left right cells entries root word) (word_looks cells root word) looks after → Done (odd_sheet left right c e r word) (word_looks c r word) looks after
+over_parts left right word p d = rw (← p.0, ← p.1, ← p.2) d
 
--- the ways to the breaks meet: what they leave is one room and one count, and the room keeps its length
-pub done_as : {bytes : List ℕ} {looks : ℕ} {d room after : List ℕ} {count n : ℕ} → room ≡ after → count ≡ n → Done bytes looks d n after → Done bytes looks d count room
+-- the ways to the breaks meet: what they leave is one room and one count
+pub done_as : {bytes : List ℕ} {looks : ℕ} {room after : List ℕ} {count n : ℕ} → room ≡ after → count ≡ n → Done bytes looks n after → Done bytes looks count room
 done_as e q d = record { counted = q ∙ d.counted; memory = e ∙ d.memory }
-
-pub breaks_kept : (left right : ℕ) (customer house cells entries : List ℕ) (root : ℕ) (word : List ℕ) {looks count : ℕ} {d after : List ℕ} → room_size ≤ length d
-    → Done (break_sheet left right customer house cells entries root word) looks d count after → length after ≡ length d
-unfolding break_sheet
-breaks_kept left right customer house cells entries root word {d = d} large e = ap length e.memory ∙ written_length room_size _ d large

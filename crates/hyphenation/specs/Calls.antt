@@ -92,6 +92,12 @@ pub record Answered (judged : Check) (sheet : List ℕ) (looks : ℕ) (room : Li
   pub answered : r ≡ answer judged sheet looks
   pub memory : after ≡ room_after judged sheet room
 
+-- What is found in a break room, which has just the bytes of a sheet: the sheet is in it, its marks are told and the count of looks.
+pub record Filled (sheet : List ℕ) (looks : ℕ) (f : Found) (after : List ℕ) : Type 0 where
+  pub marked : f.marks ≡ nonzero sheet
+  pub counted : f.looks ≡ looks
+  pub memory : after ≡ sheet
+
 -- What the levels call answers for a room of this size, and what it leaves in a room. It "always walks".
 abbrev pub levels_answer : List ℕ → List ℕ → ℕ → Answer
 levels_answer word table size = answer (judge_levels word table size) (level_sheet (cells_of table) (entries_of table) root_base word) (word_looks (cells_of table) root_base word)
@@ -105,8 +111,8 @@ Levels word table room = Answers (levels_grounds word table (length room))
     (level_sheet (cells_of table) (entries_of table) root_base word) (word_looks (cells_of table) root_base word) room
 
 -- Its part behind all judgements, over a table's cells and entries.
-abbrev pub LevelsFound : (cells entries : List ℕ) (root : ℕ) (word room : List ℕ) → Answer → List ℕ → Type 0
-LevelsFound cells entries root word room = Answered (Ok tt) (level_sheet cells entries root word) (word_looks cells root word) room
+abbrev pub LevelsFound : (cells entries : List ℕ) (root : ℕ) (word : List ℕ) → Found → List ℕ → Type 0
+LevelsFound cells entries root word = Filled (level_sheet cells entries root word) (word_looks cells root word)
 
 -- The hyphenating call's sheet and count over a table.
 abbrev pub breaks_sheet : ℕ → ℕ → List ℕ → List ℕ → List ℕ → List ℕ → List ℕ
@@ -130,9 +136,9 @@ Breaks left right word customer house table room = Answers (hyphenate_grounds le
     (breaks_sheet left right word customer house table) (breaks_looks word customer house table) room
 
 -- Its part behind all judgements, over a table's cells and entries.
-abbrev pub BreaksFound : (left right : ℕ) (word customer house cells entries : List ℕ) (root : ℕ) (room : List ℕ) → Answer → List ℕ → Type 0
-BreaksFound left right word customer house cells entries root room =
-    Answered (Ok tt) (break_sheet left right customer house cells entries root word) (break_looks customer house cells root word) room
+abbrev pub BreaksFound : (left right : ℕ) (word customer house cells entries : List ℕ) (root : ℕ) → Found → List ℕ → Type 0
+BreaksFound left right word customer house cells entries root =
+    Filled (break_sheet left right customer house cells entries root word) (break_looks customer house cells root word)
 
 -- The hyphenating call for a word alone: what it answers for a room of this size, and its promise.
 abbrev pub word_answer : ℕ → ℕ → List ℕ → List ℕ → List ℕ → List ℕ → ℕ → Answer

@@ -7,14 +7,14 @@ ghost use Rattle.base.specs.Grounds.{Finds, says, first_of};
 ghost use Rattle.words.specs.Words.{judge_word};
 ghost use Rattle.liang.specs.Breaks.{bad_margin, in_margins, level_break};
 ghost use Rattle.table.specs.Table.{cells_of, entries_of, root_base};
-ghost use Rattle.rooms.specs.Rooms.{sheet, written, bit};
-ghost use Rattle.hyphenation.specs.Levels.{word_looks};
+ghost use Rattle.rooms.specs.Rooms.{sheet, bit};
 ghost use Rattle.hyphenation.specs.Breaks.{mark_hyphens};
-ghost use Rattle.hyphenation.specs.Post.{Done, line_sheet, odd_sheet, Inside};
+ghost use Rattle.hyphenation.specs.Post.{line_sheet, Inside};
 ghost use Rattle.hyphenation.specs.Calls.{room_grounds, margin_grounds, levels_grounds, hyphenate_grounds, word_alone_grounds, LevelsFound, Levels, BreaksFound, Breaks, WordBreaks};
 
 use base::Ground;
 use lookup::Located;
+use table::Trie;
 use words::Word;
 
 // What a call found: how many bytes of the room it set, and the count of looks.
@@ -34,7 +34,26 @@ pub struct Setting<'a> {
     pub table: &'a [u8],
 }
 
+// The margins of a word, and how many letters it has.
+#[derive(Clone, Copy)]
+struct Margins {
+    left: usize,
+    right: usize,
+    letters: usize,
+}
+
+impl Margins {
+    // Do they fit around gap i?
+    #[tactic(auto, unfolding(liang::specs::Breaks::in_margins))]
+    fn fit(self, i: usize) -> bool
+        ensures { result ≡ in_margins self.left self.right self.letters i }
+    {
+        self.left <= i && self.right <= self.letters.saturating_sub(i)
+    }
+}
+
 // Ground 5.
+#[tactic(auto, unfolding(base::specs::Grounds::says, base::specs::Grounds::first_of, crate::specs::Calls::room_grounds))]
 pub fn judge_room(size: usize) -> Result<(), Ground>
     ensures { says result ≡ first_of (Finds []) (room_grounds size) }
 {
@@ -44,23 +63,19 @@ pub fn judge_room(size: usize) -> Result<(), Ground>
     Ok(())
 }
 
+#[tactic(auto, unfolding(liang::specs::Breaks::bad_margin))]
 fn is_bad_margin(margin: usize) -> bool
     ensures { result ≡ bad_margin margin }
 {
-    if margin < 1 {
-        return true;
-    }
-    base::MARGIN_LIMIT < margin
+    margin < 1 || base::MARGIN_LIMIT < margin
 }
 
 // Ground 1.
+#[tactic(auto, unfolding(base::specs::Grounds::says, base::specs::Grounds::first_of, crate::specs::Calls::margin_grounds))]
 pub fn judge_margins(left: usize, right: usize) -> Result<(), Ground>
     ensures { says result ≡ first_of (Finds []) (margin_grounds left right) }
 {
-    if is_bad_margin(left) {
-        return Err(Ground::Margin);
-    }
-    if is_bad_margin(right) {
+    if is_bad_margin(left) || is_bad_margin(right) {
         return Err(Ground::Margin);
     }
     Ok(())
@@ -94,23 +109,10 @@ pub fn judge_hyphenate(setting: &Setting, word: &[u8], size: usize) -> Result<()
     table::judge_table(setting.table)
 }
 
-// Do the margins fit around gap i of n letters?
-fn is_inside(left: usize, right: usize, n: usize, i: usize) -> bool
-    ensures { result ≡ in_margins left right n i }
-{
-    if i < left {
-        return false;
-    }
-    if n < i {
-        return right == 0; // no letter is left
-    }
-    right <= n - i
-}
-
-// Those hyphens of an exception line that count for a word of n letters, put into the room.
-fn mark_line(left: usize, right: usize, n: usize, line: &[u8], room: &mut [u8])
-    requires { room_size ≤ length room.old }
-    ensures { room.new ≡ mark_hyphens (in_margins left right n) 0 line.now room.old }
+// Those hyphens of an exception line that count, put into the room.
+#[tactic(auto, using(crate::proofs::Laws::mark_outside, crate::proofs::Laws::mark_far, crate::proofs::Laws::mark_end))]
+fn mark_line(margins: Margins, line: &[u8], room: &mut [u8; base::ROOM_SIZE])
+    ensures { room.new ≡ mark_hyphens (in_margins margins.left margins.right margins.letters) 0 line.now room.old }
 {
     let mut gap: usize = 0;
     for b in line {
@@ -121,77 +123,50 @@ fn mark_line(left: usize, right: usize, n: usize, line: &[u8], room: &mut [u8])
         if base::ROOM_SIZE <= gap {
             continue;
         }
-        if is_inside(left, right, n, gap) {
-            room[gap] = 1;
+        if !margins.fit(gap) {
+            continue;
         }
+        room[gap] = 1;
     }
 }
 
-// The levels of a word of n letters put into a room as breaks: only gaps inside the margins are looked at.
-fn put_breaks(left: usize, right: usize, n: usize, levels: &[u8; base::ROOM_SIZE], room: &mut [u8])
-    requires { (room_size ≤ length room.old) × (n ≤ word_limit) × Inside n levels.now }
-    ensures { room.new ≡ written room_size (sheet room_size (λ i. bit (level_break left right n (λ k. get_or levels.now k 0) i))) room.old }
+// The levels of a word put into a room as breaks: only gaps inside the margins are looked at.
+fn put_breaks(margins: Margins, levels: &[u8; base::ROOM_SIZE], room: &mut [u8; base::ROOM_SIZE])
+    requires { (margins.letters ≤ word_limit) × Inside margins.letters levels.now }
+    ensures { room.new ≡ sheet room_size (λ i. bit (level_break margins.left margins.right margins.letters (λ k. get_or levels.now k 0) i)) }
 {
-    rooms::clear_from(room, 0, base::ROOM_SIZE);
-    if n < right {
+    *room = [0; base::ROOM_SIZE];
+    if margins.letters < margins.right {
         return;
     }
-    let last = n - right;
-    for i in left..last + 1 {
+    let last = margins.letters - margins.right;
+    for i in margins.left..last + 1 {
         room[i] = levels[i] % 2;
     }
 }
 
-// The levels of a judged word in a judged room.
-fn find_levels(
-    cells: &[u8],
-    entries: &[u8],
-    root: u16,
-    word: &Word,
-    room: &mut [u8],
-) -> Result<Found, Ground>
-    requires { room_size ≤ length room.old }
-    ensures { LevelsFound cells.now entries.now root word.now.bytes.now room.old result room.new }
+// The levels of a judged word.
+fn find_levels(trie: &Trie, word: &Word, room: &mut [u8; base::ROOM_SIZE]) -> Found
+    ensures { LevelsFound trie.now.cells.now trie.now.entries.now trie.now.root word.now.bytes.now result room.new }
 {
-    let mut levels = [0u8; base::ROOM_SIZE];
-    let looks = walk::walk_word(cells, entries, root, word, &mut levels);
-    rooms::copy_to(room, 0, &levels, base::ROOM_SIZE);
-    let marks = rooms::count_marks(room, base::ROOM_SIZE);
-    Ok(Found { marks, looks })
+    let looks = walk::walk_word(trie, word, room);
+    let marks = rooms::count_marks(&room[..], base::ROOM_SIZE);
+    Found { marks, looks }
 }
 
-// The breaks of a word of n letters by its exception line.
-fn put_line_breaks(left: usize, right: usize, n: usize, line: &[u8], room: &mut [u8])
-    requires { room_size ≤ length room.old }
-    ensures { room.new ≡ written room_size (line_sheet left right n line.now) room.old }
+// The breaks of a word by its exception line.
+#[tactic(auto, using(crate::proofs::Rooms::line_room))]
+fn put_line_breaks(margins: Margins, line: &[u8], room: &mut [u8; base::ROOM_SIZE])
+    ensures { room.new ≡ line_sheet margins.left margins.right margins.letters line.now }
 {
-    rooms::clear_from(room, 0, base::ROOM_SIZE);
-    mark_line(left, right, n, line, room);
+    *room = [0; base::ROOM_SIZE];
+    mark_line(margins, line, room);
 }
 
-// The breaks of a judged word by the levels, and the count of looks.
-fn put_level_breaks(
-    left: usize,
-    right: usize,
-    cells: &[u8],
-    entries: &[u8],
-    root: u16,
-    word: &Word,
-    room: &mut [u8],
-) -> usize
-    requires { room_size ≤ length room.old }
-    ensures { Done (odd_sheet left right cells.now entries.now root word.now.bytes.now) (word_looks cells.now root word.now.bytes.now) room.old result room.new }
-{
-    let mut levels = [0u8; base::ROOM_SIZE];
-    let looks = walk::walk_word(cells, entries, root, word, &mut levels);
-    put_breaks(left, right, word.bytes.len(), &levels, room);
-    looks
-}
-
-// The breaks of a judged word in a judged room.
-fn find_breaks(setting: &Setting, word: &Word, room: &mut [u8]) -> Result<Found, Ground>
-    requires { room_size ≤ length room.old }
-    ensures { BreaksFound setting.now.left setting.now.right word.now.bytes.now setting.now.customer.now setting.now.house.now (cells_of setting.now.table.now) (entries_of setting.now.table.now) root_base room.old result room.new }
+// The breaks of a judged word.
+#[tactic(auto, using(words::proofs::Laws::word_fits, crate::proofs::Rooms::raised_inside, lookup::proofs::Laws::customer_within, lookup::proofs::Laws::house_within))]
+fn find_breaks(setting: &Setting, word: &Word, room: &mut [u8; base::ROOM_SIZE]) -> Found
+    ensures { BreaksFound setting.now.left setting.now.right word.now.bytes.now setting.now.customer.now setting.now.house.now (cells_of setting.now.table.now) (entries_of setting.now.table.now) root_base result room.new }
 {
     let Setting {
         left,
@@ -200,23 +175,29 @@ fn find_breaks(setting: &Setting, word: &Word, room: &mut [u8]) -> Result<Found,
         house,
         table,
     } = *setting;
+    let margins = Margins {
+        left,
+        right,
+        letters: word.bytes.len(),
+    };
     let looks = match lookup::find_either(word.bytes, customer, house) {
         Located::Customer { start, end } => {
-            put_line_breaks(left, right, word.bytes.len(), &customer[start..end], room);
+            put_line_breaks(margins, &customer[start..end], room);
             0 // a customer's line takes no look
         }
         Located::House { start, end } => {
-            put_line_breaks(left, right, word.bytes.len(), &house[start..end], room);
+            put_line_breaks(margins, &house[start..end], room);
             0 // nor does the house's
         }
         Located::Nowhere => {
-            let cells = table::cells_of(table);
-            let entries = table::entries_of(table);
-            put_level_breaks(left, right, cells, entries, table::ROOT_BASE, word, room)
+            let mut levels = [0u8; base::ROOM_SIZE];
+            let looks = walk::walk_word(&table::trie_of(table), word, &mut levels);
+            put_breaks(margins, &levels, room);
+            looks
         }
     };
-    let marks = rooms::count_marks(room, base::ROOM_SIZE);
-    Ok(Found { marks, looks })
+    let marks = rooms::count_marks(&room[..], base::ROOM_SIZE);
+    Found { marks, looks }
 }
 
 // The levels call.
@@ -224,15 +205,10 @@ pub fn levels(word: &[u8], table: &[u8], room: &mut [u8]) -> Result<Found, Groun
     ensures { Levels word.now table.now room.old result room.new }
 {
     judge_levels(word, table, room.len())?;
-    let cells = table::cells_of(table);
-    let entries = table::entries_of(table);
-    find_levels(
-        cells,
-        entries,
-        table::ROOT_BASE,
-        &Word { bytes: word },
-        room,
-    )
+    let Some(room) = room.first_chunk_mut() else {
+        return Err(Ground::RoomShort); // judged above
+    };
+    Ok(find_levels(&table::trie_of(table), &Word { bytes: word }, room))
 }
 
 // The hyphenating call.
@@ -240,7 +216,10 @@ pub fn hyphenate(setting: &Setting, word: &[u8], room: &mut [u8]) -> Result<Foun
     ensures { Breaks setting.now.left setting.now.right word.now setting.now.customer.now setting.now.house.now setting.now.table.now room.old result room.new }
 {
     judge_hyphenate(setting, word, room.len())?;
-    find_breaks(setting, &Word { bytes: word }, room)
+    let Some(room) = room.first_chunk_mut() else {
+        return Err(Ground::RoomShort); // judged above
+    };
+    Ok(find_breaks(setting, &Word { bytes: word }, room)) // the judged word
 }
 
 // The hyphenating call for a word, where margins, lists and table were judged before: whoever has many words judges these once.
@@ -249,5 +228,8 @@ pub fn hyphenate_word(setting: &Setting, word: &[u8], room: &mut [u8]) -> Result
     ensures { WordBreaks setting.now.left setting.now.right word.now setting.now.customer.now setting.now.house.now setting.now.table.now room.old result room.new }
 {
     judge_word_alone(word, room.len())?;
-    find_breaks(setting, &Word { bytes: word }, room)
+    let Some(room) = room.first_chunk_mut() else {
+        return Err(Ground::RoomShort); // judged above
+    };
+    Ok(find_breaks(setting, &Word { bytes: word }, room))
 }

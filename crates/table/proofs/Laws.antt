@@ -11,7 +11,7 @@ use lib.Seq.{take_all, take-nil, set_out}
 use Rattle.base.specs.Limits.{cell_limit, entry_limit}
 use Rattle.std.specs.Prelude.{Ok, Err, None, Some}
 use Rattle.base.specs.declared.Ground.TheVariants.{TableForm}
-use Rattle.table.specs.Table.{head_kind, edition, head_size, cell_size, number_at, put_number, cell_count, entry_count, formed, judge_table, cells_from, entries_from, behind, cells_of, entries_of, cells_place, entries_place, look, entry_at, hit, has, Look}
+use Rattle.table.specs.Table.{head_kind, edition, head_size, number_at, put_number, cell_count, entry_count, formed, judge_table, cells_from, entries_from, behind, look, entry_at, hit, has, Look}
 use Rattle.table.specs.Records.{two_bytes, head_bytes}
 
 -- the two bytes of a number as the library writes them
@@ -35,14 +35,6 @@ module _ (t : List ℕ) (at n : ℕ) where
     pub put_both : set (set t at (get_or told 0 0)) (at + 1) (get_or told 1 0) ≡ put_number at n t
     unfolding put_number
     put_both = rw (e.high, e.low)
-
-pub cells_told : (t : List ℕ) {n : ℕ} → n ≡ number_at t 2 → n ≡ cell_count t
-unfolding cell_count
-cells_told t e = e
-
-pub entries_told : (t : List ℕ) {n : ℕ} → n ≡ number_at t 4 → n ≡ entry_count t
-unfolding entry_count
-entries_told t e = e
 
 -- ground 9, in the order in which the code asks
 pub short_table : (t : List ℕ) → length t < 6 → Err TableForm ≡ judge_table t
@@ -154,24 +146,6 @@ module _ (t : List ℕ) (at : ℕ × ℕ) (start : ℕ) where
     pub entries_behind : start ≤ length t → 6 * count ≤ length t - start → (at.0, (start + 6 * count) + at.1) ≡ behind (start + 6 * count) t at
     unfolding behind
     entries_behind l h = rw (le-ltb (length t) (start + 6 * count) (omega arith))
-
--- the cells stand behind the head, the entries behind the cells
-module _ (t : List ℕ) {c : ℕ} (p : c ≡ cell_count t) where
-  pub cells_are : {part : List ℕ} → part ≡ cells_from head_size c t → part ≡ cells_of t
-  unfolding cells_of
-  cells_are e = rw p at e
-
-  pub entries_are : {part : List ℕ} → part ≡ entries_from head_size c t → part ≡ entries_of t
-  unfolding entries_of
-  entries_are e = rw p at e
-
-  pub entries_lie : {place : ℕ × ℕ} (at : ℕ × ℕ) → place ≡ behind (head_size + cell_size * c) t at → place ≡ entries_place t at
-  unfolding entries_place
-  entries_lie at e = rw p at e
-
-pub cells_lie : (t : List ℕ) {place : ℕ × ℕ} (at : ℕ × ℕ) → place ≡ behind head_size t at → place ≡ cells_place t at
-unfolding cells_place
-cells_lie t at e = e
 
 -- the head, byte by byte
 pub head_put : (c e : ℕ) (room : List ℕ) {cells entries head : List ℕ} → Halves cells c → Halves entries e

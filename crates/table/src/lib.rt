@@ -4,7 +4,7 @@
 ghost use Rattle.std.specs.Prelude.{[], ◌++◌, ◌≡◌, ◌+◌, ◌*◌, ◌≤◌, ◌<◌, length, get_or, drop};
 ghost use Rattle.base.specs.Grounds.{Finds, says, first_of};
 ghost use Rattle.table.specs.Records.{head_bytes};
-ghost use Rattle.table.specs.Table.{head_size, cell_size, number_at, put_number, cell_count, entry_count, table_grounds, behind, cells_from, entries_from, cells_of, entries_of, cells_place, entries_place, look, entry_at};
+ghost use Rattle.table.specs.Table.{head_size, cell_size, number_at, put_number, cell_count, entry_count, table_grounds, behind, cells_from, entries_from, cells_of, entries_of, cells_place, entries_place, root_base, look, entry_at};
 
 use base::Ground;
 
@@ -36,6 +36,14 @@ pub const ROOT_BASE: u16 = 0;
 pub struct Cell {
     pub link: u16,
     pub output: u16,
+}
+
+// What a walk goes over: the cells of a table, its entries, and the base at which the walk begins.
+#[derive(Clone, Copy)]
+pub struct Trie<'a> {
+    pub cells: &'a [u8],
+    pub entries: &'a [u8],
+    pub root: u16,
 }
 
 // One entry of a chain, and the number of the next.
@@ -104,6 +112,7 @@ pub fn number_at(bytes: &[u8], at: usize) -> u16
 }
 
 // A number of two bytes written where there is room for them.
+#[tactic(auto, using(crate::proofs::Laws::halves, crate::proofs::Laws::put_past, crate::proofs::Laws::put_half, crate::proofs::Laws::put_both))]
 pub fn put_number(bytes: &mut [u8], at: usize, n: u16)
     ensures { bytes.new ≡ put_number at n bytes.old }
 {
@@ -118,6 +127,7 @@ pub fn put_number(bytes: &mut [u8], at: usize, n: u16)
 }
 
 // How many cells a table's head tells.
+#[tactic(auto, unfolding(crate::specs::Table::cell_count))]
 pub fn cell_count(table: &[u8]) -> u16
     ensures { result ≡ cell_count table.now }
 {
@@ -125,6 +135,7 @@ pub fn cell_count(table: &[u8]) -> u16
 }
 
 // How many entries a table's head tells.
+#[tactic(auto, unfolding(crate::specs::Table::entry_count))]
 pub fn entry_count(table: &[u8]) -> u16
     ensures { result ≡ entry_count table.now }
 {
@@ -132,6 +143,7 @@ pub fn entry_count(table: &[u8]) -> u16
 }
 
 // The bytes of so many cells from a start on, as far as they are there.
+#[tactic(auto, using(crate::proofs::Laws::cells_none, crate::proofs::Laws::cells_all, crate::proofs::Laws::cells_part, crate::proofs::Laws::cells_short, crate::proofs::Laws::cells_behind))]
 pub fn cells_from(table: &[u8], start: usize, count: u16) -> &[u8]
     ensures bytes { result.now ≡ cells_from start count table.now }
     ensures place { result.ref_ptr ≡ behind start table.now table.entry.ref_ptr }
@@ -147,6 +159,7 @@ pub fn cells_from(table: &[u8], start: usize, count: u16) -> &[u8]
 }
 
 // The bytes behind so many cells from a start on.
+#[tactic(auto, using(crate::proofs::Laws::entries_none, crate::proofs::Laws::entries_past, crate::proofs::Laws::entries_part, crate::proofs::Laws::entries_short, crate::proofs::Laws::entries_cut, crate::proofs::Laws::entries_behind))]
 pub fn entries_from(table: &[u8], start: usize, count: u16) -> &[u8]
     ensures bytes { result.now ≡ entries_from start count table.now }
     ensures place { result.ref_ptr ≡ behind (start + cell_size * count) table.now table.entry.ref_ptr }
@@ -162,6 +175,7 @@ pub fn entries_from(table: &[u8], start: usize, count: u16) -> &[u8]
 }
 
 // The bytes of a table's cells, as far as they are there.
+#[tactic(auto, unfolding(crate::specs::Table::cells_of, crate::specs::Table::cells_place))]
 pub fn cells_of(table: &[u8]) -> &[u8]
     ensures bytes { result.now ≡ cells_of table.now }
     ensures place { result.ref_ptr ≡ cells_place table.now table.entry.ref_ptr }
@@ -170,11 +184,23 @@ pub fn cells_of(table: &[u8]) -> &[u8]
 }
 
 // The bytes of a table's entries, as far as they are there.
+#[tactic(auto, unfolding(crate::specs::Table::entries_of, crate::specs::Table::entries_place))]
 pub fn entries_of(table: &[u8]) -> &[u8]
     ensures bytes { result.now ≡ entries_of table.now }
     ensures place { result.ref_ptr ≡ entries_place table.now table.entry.ref_ptr }
 {
     entries_from(table, HEAD_SIZE, cell_count(table))
+}
+
+// What a table gives its walks, as far as it is there.
+pub fn trie_of(table: &[u8]) -> Trie
+    ensures { (result.cells.now ≡ cells_of table.now) × (result.entries.now ≡ entries_of table.now) × (result.root ≡ root_base) }
+{
+    Trie {
+        cells: cells_of(table),
+        entries: entries_of(table),
+        root: ROOT_BASE,
+    }
 }
 
 // A table's head.
@@ -211,6 +237,7 @@ pub fn look_at(cells: &[u8], base: u16, symbol: u8) -> Option<Cell>
 }
 
 // The entry numbered k.
+#[tactic(auto, using(crate::proofs::Laws::entry_none, crate::proofs::Laws::entry_past, crate::proofs::Laws::entry_kind_lem, crate::proofs::Laws::entry_has))]
 pub fn entry_at(entries: &[u8], k: u16) -> Option<Entry>
     ensures { result ≡ entry_at entries.now k }
 {

@@ -9,21 +9,12 @@ ghost use Rattle.walk.specs.Walk.{looks};
 ghost use Rattle.walk.specs.Raise.{raise, raise_all};
 ghost use Rattle.walk.specs.Post.{Walked};
 
-use table::{Cell, Entry};
+use table::{Cell, Entry, Trie};
 use words::Word;
-
-// The higher of two levels.
-fn higher(a: u8, b: u8) -> u8
-    ensures { result ≡ max a b }
-{
-    if a < b {
-        return b;
-    }
-    a // it stays
-}
 
 // One level at the gap with so many symbols before it, where it is an inner one. It is always stored: whether a level raises
 // another can't be foreseen, and a store costs less than a branch.
+#[tactic(auto, using(crate::proofs::Laws::raise_low, crate::proofs::Laws::raise_high, crate::proofs::Laws::raise_highest))]
 fn raise_to(room: &mut [u8; base::ROOM_SIZE], n: usize, before: usize, level: u8)
     requires { n ≤ room_size }
     ensures { room.new ≡ raise n (record { before = before; level = level }) room.old }
@@ -35,10 +26,11 @@ fn raise_to(room: &mut [u8; base::ROOM_SIZE], n: usize, before: usize, level: u8
         return;
     }
     let gap = before - 1;
-    room[gap] = higher(room[gap], level);
+    room[gap] = room[gap].max(level);
 }
 
 // One entry of a chain, for a path of m symbols that ends after so many symbols of the row.
+#[tactic(auto, using(crate::proofs::Laws::entry_low, crate::proofs::Laws::entry_high, crate::proofs::Laws::entry_far, crate::proofs::Laws::entry_sets))]
 fn apply_entry(
     room: &mut [u8; base::ROOM_SIZE],
     n: usize,
@@ -91,17 +83,15 @@ fn apply_chain(
 }
 
 // The walks from every place of a row of n letters and two edges. The first mismatch ends a walk; each look counts one.
-fn walk_row(
-    cells: &[u8],
-    entries: &&[u8],
-    root: u16,
-    row: &[u8],
-    n: usize,
-    room: &mut [u8; base::ROOM_SIZE],
-) -> usize
+fn walk_row(trie: &Trie, row: &[u8], n: usize, room: &mut [u8; base::ROOM_SIZE]) -> usize
     requires { (length row.now ≤ row_limit) × (n ≤ room_size) }
-    ensures { Walked cells.now entries.now.now root n row.now room.old result room.new }
+    ensures { Walked trie.now.cells.now trie.now.entries.now trie.now.root n row.now room.old result room.new }
 {
+    let Trie {
+        cells,
+        entries,
+        root,
+    } = *trie;
     let mut looks: usize = 0;
     for place in 0..row.len() {
         let mut base = root;
@@ -115,7 +105,7 @@ fn walk_row(
             };
             m += 1;
             end += 1;
-            apply_chain(entries, output, room, n, m, end);
+            apply_chain(&entries, output, room, n, m, end);
             if link == 0 {
                 break 'walk m;
             }
@@ -146,21 +136,15 @@ fn fill_row(word: &Word, row: &mut [u8])
 
 // The walks over a judged word, from the root base: its levels, whatever the room held, and the count of looks. They are raised in an
 // array of its own, which takes no register of the walk.
-pub fn walk_word(
-    cells: &[u8],
-    entries: &[u8],
-    root: u16,
-    word: &Word,
-    room: &mut [u8; base::ROOM_SIZE],
-) -> usize
-    ensures { Walked cells.now entries.now root (length word.now.bytes.now) (row_of word.now.bytes.now) (replicate room_size 0) result room.new }
+pub fn walk_word(trie: &Trie, word: &Word, room: &mut [u8; base::ROOM_SIZE]) -> usize
+    ensures { Walked trie.now.cells.now trie.now.entries.now trie.now.root (length word.now.bytes.now) (row_of word.now.bytes.now) (replicate room_size 0) result room.new }
 {
     let mut row = [0u8; base::ROW_LIMIT];
     fill_row(word, &mut row);
     let n = word.bytes.len();
     let end = n + 2;
     let mut levels = [0u8; base::ROOM_SIZE];
-    let looks = walk_row(cells, &entries, root, &row[..end], n, &mut levels);
+    let looks = walk_row(trie, &row[..end], n, &mut levels);
     *room = levels;
     looks
 }

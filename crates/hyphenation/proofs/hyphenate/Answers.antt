@@ -1,3 +1,4 @@
+use native.Mathlib.Omega.{arith}
 use Rattle.base.proofs.Grounds.{judged_by, handed_on}
 use Rattle.hyphenation.proofs.Calls.{refused, breaks_sizes, breaks_found}
 use Rattle.hyphenation.proofs.Order.{hyphenate_ordered, promised}
@@ -9,8 +10,8 @@ returns-in_err-judge_hyphenate c = promised (hyphenate_ordered _ _ _ _ _ _ _) (r
 pub invariant_of-find_breaks : goal.invariant_of-find_breaks
 invariant_of-find_breaks c = record { judged = (breaks_sizes _ _ _ _ _ _ _ (judged_by (hyphenate_ordered _ _ _ _ _ _ _) c.judge_hyphenate.ensures) c.in_ok-judge_hyphenate.was).0 }
 
-pub find_breaks-requires : goal.find_breaks-requires
-find_breaks-requires c = (breaks_sizes _ _ _ _ _ _ _ (judged_by (hyphenate_ordered _ _ _ _ _ _ _) c.judge_hyphenate.ensures) c.in_ok-judge_hyphenate.was).1
+pub returns-in_default : goal.returns-in_default
+returns-in_default c = absurd (omega (arith, c.in_default.ensures.cases, (breaks_sizes _ _ _ _ _ _ _ (judged_by (hyphenate_ordered _ _ _ _ _ _ _) c.judge_hyphenate.ensures) c.in_ok-judge_hyphenate.was).1))
 
 pub returns : goal.returns
 returns c = promised (hyphenate_ordered _ _ _ _ _ _ _) (breaks_found _ _ _ _ _ _ _ (judged_by (hyphenate_ordered _ _ _ _ _ _ _) c.judge_hyphenate.ensures) c.in_ok-judge_hyphenate.was c.find_breaks.ensures)

@@ -1,3 +1,4 @@
+use native.Mathlib.Omega.{arith}
 use Rattle.base.proofs.Grounds.{judged_by, handed_on}
 use Rattle.hyphenation.proofs.Calls.{refused, word_alone_sizes, breaks_found}
 use Rattle.hyphenation.proofs.Order.{word_alone_ordered, promised}
@@ -9,8 +10,8 @@ returns-in_err-judge_word_alone c = promised (word_alone_ordered _ _) (refused _
 pub invariant_of-find_breaks : goal.invariant_of-find_breaks
 invariant_of-find_breaks c = record { judged = (word_alone_sizes _ _ (judged_by (word_alone_ordered _ _) c.judge_word_alone.ensures) c.in_ok-judge_word_alone.was).0 }
 
-pub find_breaks-requires : goal.find_breaks-requires
-find_breaks-requires c = (word_alone_sizes _ _ (judged_by (word_alone_ordered _ _) c.judge_word_alone.ensures) c.in_ok-judge_word_alone.was).1
+pub returns-in_default : goal.returns-in_default
+returns-in_default c = absurd (omega (arith, c.in_default.ensures.cases, (word_alone_sizes _ _ (judged_by (word_alone_ordered _ _) c.judge_word_alone.ensures) c.in_ok-judge_word_alone.was).1))
 
 pub returns : goal.returns
 returns c = promised (word_alone_ordered _ _) (breaks_found _ _ _ _ _ _ _ (judged_by (word_alone_ordered _ _) c.judge_word_alone.ensures) c.in_ok-judge_word_alone.was c.find_breaks.ensures)

@@ -14,7 +14,7 @@ walk-preserved c = law.walking_on _ _ _ _ _ _ _ c.walk.invariant c.look_at.ensur
 
 -- The ways out of the inner loop meet here: each leaves the place's walk whole.
 ended : (c : goal.After-row_known-1)
-    → law.Ended c.args.cells.now c.args.entries.now.now c.args.root c.args.n c.loop-place.place c.args.row.now c.loop-place.room c.match-look_at.walked c.match-look_at.room
+    → law.Ended c.args.trie.now.cells.now c.args.trie.now.entries.now c.args.trie.now.root c.args.n c.loop-place.place c.args.row.now c.loop-place.room c.match-look_at.walked c.match-look_at.room
 ended c =
     elim c.match-look_at.branch [
       | in_default w ↦ law.ended_at w.walked-is w.room-is (law.walking_miss _ _ _ _ _ _ _ c.walk.invariant c.look_at.ensures w.in_default.is)
