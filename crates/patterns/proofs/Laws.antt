@@ -1,5 +1,5 @@
 -- Laws about one pattern line: one for each way through the code.
-use Prim.Native.Nat.{ℕ, suc, ◌+◌, ◌-◌, ◌≤◌, ◌<◌}
+use Prim.Native.Nat.{ℕ, zero, suc, ◌+◌, ◌-◌, ◌≤◌, ◌<◌}
 use mathlib.Core.Bool.{Bool, true, false, cond}
 use mathlib.Core.List.{List, [], ◌∷◌}
 use mathlib.Core.Path.{◌≡◌, refl, sym, ◌∙◌, ap}
@@ -7,7 +7,8 @@ use native.Mathlib.Omega.{arith}
 use borrow.Author.Tests.{eq-eqb, ne_eqb, eqb-true}
 use lib.Dec.{eqb}
 use lib.ListN.{length, get_or, drop, drop_of_length-le}
-use Rattle.std.specs.Prelude.{map, filter, not}
+use Rattle.std.specs.Prelude.{map, filter, not, Option, None, Some, slice_get}
+use Rattle.std.specs.Option.{option_map, unwrap_or}
 use Rattle.base.proofs.Lists.{cons_at, never}
 use Rattle.words.specs.Symbols.{small, digit, symbol_of, symbols_of}
 use Rattle.words.proofs.Laws.{small_not_digit, other_symbol, digit_not_dot, digit_not_apostrophe, symbols_skip, symbols_keep}
@@ -25,6 +26,20 @@ symbols_chain (b ∷ l) = go (eqb (symbol_of b) 0) (symbols_chain l)
         → cond z (symbols_of l) (symbol_of b ∷ symbols_of l) ≡ cond (not z) (symbol_of b ∷ filter (λ s. not (eqb s 0)) (map symbol_of l)) (filter (λ s. not (eqb s 0)) (map symbol_of l))
     go true e = e
     go false e = ap (λ (r : List ℕ). symbol_of b ∷ r) e
+
+-- and one of them by its number
+pub symbol_nth : (line : List ℕ) (number : ℕ) (r : Option ℕ) {s : ℕ} → option_map (λ x. x) r ≡ slice_get (filter (λ x. not (eqb x 0)) (map symbol_of line)) number → s ≡ unwrap_or r 0
+    → s ≡ get_or (symbols_of line) number 0
+symbol_nth line number r e p = p ∙ go r (e ∙ ap (λ (l : List ℕ). slice_get l number) (sym (symbols_chain line)))
+  where
+    got : (l : List ℕ) (n : ℕ) → unwrap_or (slice_get l n) 0 ≡ get_or l n 0
+    got [] n = refl
+    got (x ∷ l) zero = refl
+    got (x ∷ l) (suc n) = got l n
+
+    go : (r : Option ℕ) → option_map (λ x. x) r ≡ slice_get (symbols_of line) number → unwrap_or r 0 ≡ get_or (symbols_of line) number 0
+    go None q = ap (λ (o : Option ℕ). unwrap_or o 0) q ∙ got (symbols_of line) number
+    go (Some x) q = ap (λ (o : Option ℕ). unwrap_or o 0) q ∙ got (symbols_of line) number
 
 -- what is left of a line's symbols
 module _ (l : List ℕ) (i : ℕ) {s : ℕ} (h : i < length l) (p : s ≡ symbol_of (get_or l i 0)) where
@@ -61,9 +76,7 @@ pub levels_end : (l : List ℕ) (i level : ℕ) → length l ≤ i → levels_fr
 unfolding levels_from
 levels_end l i level h = rw (drop_of_length-le l h)
 
--- the ways through the loops over what is left of a line
-pub ruleset rest_of_symbols = (rest_skip, rest_keep, rest_end, get_d_pred)
-
+-- the ways through the loop over what is left of a line's levels
 pub ruleset rest_of_levels = (levels_digit, levels_symbol, levels_other, levels_end, get_d_pred)
 
 -- a digit is no symbol

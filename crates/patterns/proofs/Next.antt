@@ -1,35 +1,40 @@
 -- Laws about how the patterns of a list go on, as marks in a mask.
-use Prim.Native.Nat.{ℕ, suc, ◌+◌, ◌-◌, ◌≤◌, ◌<◌}
+use Prim.Native.Nat.{ℕ, suc, ◌-◌, ◌≤◌, ◌<◌}
 use mathlib.Core.Bool.{Bool, true, false, cond, ◌&&◌, ◌||◌}
 use mathlib.Core.List.{List, [], ◌∷◌, map}
 use mathlib.Core.Path.{◌≡◌, refl, sym, ◌∙◌, ap}
 use native.Mathlib.Omega.{arith}
 use borrow.Author.Tests.{lt-leb, le-leb, eqb-true, eqb-false}
 use lib.Dec.{leb, eqb}
-use lib.ListN.{length, get_or, take, drop, set, length-set, replicate, get_or-replicate, drop_of_length-le}
-use lib.Seq.{get_or-set_same, get_or-set_other}
+use lib.ListN.{length, get_or, take, drop, set, length-set, length-drop, replicate, get_or-replicate}
+use lib.Seq.{take_all, get_or-set_same, get_or-set_other}
 use Rattle.base.specs.Limits.{symbol_limit}
 use Rattle.words.specs.Symbols.{symbols_of}
-use Rattle.lines.specs.Lines.{cut, line_length}
-use Rattle.lines.proofs.Laws.{cut_line}
+use Rattle.lines.specs.Lines.{cut}
 use Rattle.liang.specs.Patterns.{Pattern, pattern_of}
 use Rattle.patterns.specs.Common.{common}
 use Rattle.patterns.specs.Next.{next_in, next_mask}
 
--- how the list goes on, as marks
-module _ (m : ℕ) (own text : List ℕ) (i e : ℕ) (mask : List ℕ) (h : i < length text) (q : e ≡ i + line_length (drop i text)) where
-  pub next_other : {c : ℕ} → c ≡ common own (symbols_of (take (e - i) (drop i text))) → c < m → mask ≡ next_mask m own (map pattern_of (cut (drop i text))) mask
-  unfolding next_mask pattern_of
-  next_other p l = rw (cut_line text i e h q, ← p, lt-leb m _ l)
+-- the marks of the part of a text from a place on
+pub next_from : (m : ℕ) (own mask text : List ℕ) (at : ℕ) (rest : List ℕ) → rest ≡ take (length text - at) (drop at text)
+    → next_mask m own (map pattern_of (cut (drop at text))) mask ≡ next_mask m own (map pattern_of (cut rest)) mask
+next_from m own mask text at rest e = ap (λ (l : List ℕ). next_mask m own (map pattern_of (cut l)) mask) (sym (e ∙ take_all (length text - at) (drop at text) (omega (arith, length-drop at text))))
 
-  pub next_mark : {c s : ℕ} → c ≡ common own (symbols_of (take (e - i) (drop i text))) → m ≤ c → s ≡ get_or (symbols_of (take (e - i) (drop i text))) m 0
-      → {after : List ℕ} → after ≡ set mask s 1 → next_mask m own (map pattern_of (cut (drop i text))) mask ≡ next_mask m own (map pattern_of (cut (drop e text))) after
+-- how the list goes on, as marks, where its first line is taken off
+module _ (m : ℕ) (own mask text line rest : List ℕ) (q : cut text ≡ line ∷ cut rest) where
+  pub next_other : {c : ℕ} → c ≡ common own (symbols_of line) → c < m → mask ≡ next_mask m own (map pattern_of (cut text)) mask
   unfolding next_mask pattern_of
-  next_mark p l r a = rw (cut_line text i e h q, ← p, le-leb m _ l, a, r)
+  next_other p l = rw (q, ← p, lt-leb m _ l)
 
-pub next_end : (m : ℕ) (own text : List ℕ) (i : ℕ) (mask : List ℕ) → length text ≤ i → next_mask m own (map pattern_of (cut (drop i text))) mask ≡ mask
+  pub next_mark : {c s : ℕ} → c ≡ common own (symbols_of line) → m ≤ c → s ≡ get_or (symbols_of line) m 0 → {after : List ℕ} → after ≡ set mask s 1
+      → next_mask m own (map pattern_of (cut text)) mask ≡ next_mask m own (map pattern_of (cut rest)) after
+  unfolding next_mask pattern_of
+  next_mark p l r a = rw (q, ← p, le-leb m _ l, a, r)
+
+pub next_end : (m : ℕ) (own mask text : List ℕ) → length text ≤ 0 → next_mask m own (map pattern_of (cut text)) mask ≡ mask
 unfolding next_mask cut
-next_end m own text i mask h = rw (drop_of_length-le text h)
+next_end m own mask [] h = refl
+next_end m own mask (b ∷ t) h = absurd (omega arith)
 
 pub mask_length : (m : ℕ) (own : List ℕ) (ps : List Pattern) (mask : List ℕ) → length (next_mask m own ps mask) ≡ length mask
 unfolding next_mask

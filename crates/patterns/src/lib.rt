@@ -23,25 +23,20 @@ pub fn symbol_count(line: &[u8]) -> usize
         .count()
 }
 
-// A line's symbol by its number, from 0; 0 where there is none.
-#[tactic(auto, using(crate::proofs::Laws::rest_of_symbols))]
+// A line's symbol by its number, from 0; 0 where there is none. No Option: whoever calls adds it to a base or marks its place, with 0 for
+// none as `next_mask` and `cell_of` have it, and would have to make 0 of `None` each time.
 pub fn symbol_at(line: &[u8], number: usize) -> u8
     ensures { result ≡ get_or (symbols_of line.now) number 0 }
 {
-    let mut left = number;
-    for b in line {
-        let s = words::symbol_of(*b);
-        if s != 0 {
-            if left == 0 {
-                return s;
-            }
-            left -= 1;
-        }
-    }
-    0
+    line.iter()
+        .map(|b| words::symbol_of(*b))
+        .filter(|s| *s != 0)
+        .nth(number)
+        .unwrap_or(0)
 }
 
-// The level of a pattern's gap with so many symbols before it; 0 where there is none.
+// The level of a pattern's gap with so many symbols before it; 0 where there is none. No Option: 0 is a level of `levels_from`, that of a
+// gap without a digit, and whoever asks for a pattern's gaps passes over it.
 #[tactic(auto, using(crate::proofs::Laws::rest_of_levels))]
 pub fn level_at(line: &[u8], gap: usize) -> u8
     ensures { result ≡ get_or (levels_from 0 line.now) gap 0 }
@@ -69,13 +64,11 @@ pub fn level_at(line: &[u8], gap: usize) -> u8
 pub fn digit_value(b: u8) -> u8
     ensures { result ≡ b - 48 }
 {
-    if b < b'0' {
-        return 0;
-    }
-    b - b'0'
+    b.saturating_sub(b'0')
 }
 
-// Where two lines part: how many leading symbols they share, and the first one's next symbol, 0 where it has none.
+// Where two lines part: how many leading symbols they share, and the first one's next symbol, 0 where it has none: no Option, since
+// `Parts` has it so, and `none_between` begins above 0 in either case.
 #[derive(Clone, Copy)]
 pub struct Parting {
     pub shared: usize,
@@ -145,14 +138,13 @@ fn mark_symbol(mask: &mut [u8], symbol: u8)
 pub fn mark_next(own: &[u8], m: usize, text: &[u8], at: usize, mask: &mut [u8])
     ensures { mask.new ≡ next_mask m (symbols_of own.now) (map pattern_of (cut (drop at text.now))) mask.old }
 {
-    // `lines::line_end` says where the next line begins; lines cut by an iterator would end in another way than `cut` has them.
-    let mut i = at;
-    while i < text.len() {
-        let end = lines::line_end(text, i);
-        if shared(own, &text[i..end]) < m {
+    let Some(rest) = text.get(at..) else {
+        return;
+    };
+    for line in rest.split_inclusive(|b| *b == words::LINE_FEED) {
+        if shared(own, line) < m {
             return;
         }
-        mark_symbol(mask, symbol_at(&text[i..end], m));
-        i = end;
+        mark_symbol(mask, symbol_at(line, m));
     }
 }
