@@ -1,33 +1,38 @@
 -- Laws about the checker's test: one for each way through the code.
-use Prim.Native.Nat.{ℕ, zero, suc, ◌+◌, ◌-◌, ◌≤◌, ◌<◌}
+use Prim.Native.Nat.{ℕ, zero, suc, ◌+◌, ◌*◌, ◌-◌, ◌≤◌, ◌<◌, min}
 use mathlib.Core.Bool.{Bool, true, false, cond, not, ◌&&◌, ◌||◌, and-true}
-use mathlib.Core.List.{List, [], map}
-use mathlib.Core.Path.{◌≡◌, refl, sym, ◌∙◌, ap}
+use mathlib.Core.List.{List, [], ◌∷◌, ◌++◌, map}
+use mathlib.Core.Path.{◌≡◌, refl, sym, ◌∙◌, ap, subst}
 use native.Mathlib.Decide.{dec_lt}
+use native.Mathlib.Nat.{mul-suc}
 use native.Mathlib.Numerals.{add-one}
 use native.Mathlib.Omega.{arith}
 use borrow.Author.Tests.{lt-leb, le-leb, lt-ltb, le-ltb, eq-eqb, ne_eqb, ltb-true, leb-true}
 use lib.Dec.{leb, ltb, eqb}
-use lib.ListN.{length, get_or, take, drop, replicate, get_or-replicate, drop_of_length-le, get_or-eq_default}
-use lib.Seq.{take-nil}
+use lib.ListN.{length, get_or, drop, replicate, get_or-replicate, drop_of_length-le}
+use denote.Param.Members.{Mut}
+use denote.Ref.{Bor}
+use Rattle.std.specs.Fn.{CalledAt, ComputesKey}
+use Rattle.std.specs.List.{IsFirstMatchOrLen}
+use Rattle.std.specs.Option.{MatchOption, unwrap_or}
 use Rattle.base.specs.Limits.{symbol_limit, pattern_limit, level_limit, room_size}
 use Rattle.base.specs.Grounds.{refuse_if}
 use Rattle.std.specs.Prelude.{Ok, Err, Some, None, Option, is_some}
 use Rattle.base.specs.declared.Ground.TheVariants.{NotRight}
 use Rattle.base.proofs.Lists.{cons_at, both}
-use Rattle.words.specs.Symbols.{small, digit, symbol_of, symbols_of}
+use Rattle.words.specs.Symbols.{line_feed, small, digit, symbol_of, symbols_of}
 use Rattle.words.specs.Words.{inner}
-use Rattle.lines.specs.Lines.{cut, line_length, any_of, line_letter, pattern_form, pattern_bytes, good_pattern}
-use Rattle.lines.proofs.Laws.{cut_line, line_size, line_starts, line_ends, end_out}
+use Rattle.lines.specs.Lines.{cut, any_of, line_letter, pattern_form, pattern_bytes, good_pattern}
+use Rattle.lines.proofs.Splits.{cut_split}
 use Rattle.lists.specs.Lists.{good_line, first_bad, judge_lines}
 use Rattle.lists.specs.declared.Form.TheVariants.{Patterns}
 use Rattle.lists.proofs.Theorems.{Passed, passed}
 use Rattle.liang.specs.Patterns.{levels_from, pattern_of, patterns_of}
 use Rattle.patterns.specs.Common.{common}
 use Rattle.patterns.specs.Post.{Parts}
-use Rattle.patterns.proofs.Laws.{rest_skip, rest_keep, rest_end, levels_digit, levels_symbol, levels_other, levels_end, line_levels, common_none}
+use Rattle.patterns.proofs.Laws.{rest_skip, rest_keep, rest_end, levels_digit, levels_symbol, levels_other, levels_end, rest_digit, line_levels, common_none}
 use Rattle.table.specs.declared.Entry.{Entry}
-use Rattle.table.specs.Table.{Look, hit, root_base, cell_kind, entry_kind, cell_size, entry_size, cell_count, entry_count, cells_of, entries_of, entry_at, look, has}
+use Rattle.table.specs.Table.{Look, hit, root_base, cell_count, entry_count, cells_of, entries_of, entry_at, look, has}
 use Rattle.walk.specs.Chain.{chain}
 use Rattle.walk.specs.Raise.{highest_set, raise_all}
 use Rattle.walk.proofs.Raised.{raised_at, chain_moved}
@@ -36,27 +41,32 @@ use Rattle.base.specs.Tests.{all_from}
 use Rattle.rightness.specs.declared.Node.{Node}
 use Rattle.rightness.specs.declared.Beside.{Beside}
 use Rattle.rightness.specs.Test.{kinds_from, kinds_test, exact_test, linked, root_at, child_at, is_hit, none_between, passed_over, follow_step, follow, first_symbols, besides, patterns_right, paths_test, right_test, right_for}
-use Rattle.base.proofs.All.{all_same, each_all}
+use Rattle.base.proofs.All.{all_same, each_all, all_pass, all_fail, all_end}
 use Rattle.checker.specs.Post.{same_levels}
 
 -- the kinds of records
-module _ (size kind : ℕ) (bytes : List ℕ) (at n count : ℕ) where
-  kinds_turn : n < count → kinds_from size kind bytes at (count - n) ≡ (eqb (get_or bytes at 0) kind && kinds_from size kind bytes (at + size) (count - (n + 1)))
+module _ (size kind : ℕ) (bytes : List ℕ) (n count : ℕ) where
+  kinds_turn : n < count → kinds_from size kind bytes (size * n) (count - n) ≡ (eqb (get_or bytes (size * n) 0) kind && kinds_from size kind bytes (size * (n + 1)) (count - (n + 1)))
   unfolding kinds_from
-  kinds_turn h = let e : count - n ≡ suc (count - (n + 1)) = omega arith in rw e
+  kinds_turn h =
+      let e : count - n ≡ suc (count - (n + 1)) = omega arith in
+      let f : size * (n + 1) ≡ size * n + size = rw add-one (mul-suc size n) in
+      rw (e, f)
 
-  pub kinds_past : n < count → 0 < kind → length bytes ≤ at → kinds_from size kind bytes at (count - n) ≡ false
-  kinds_past h k l = kinds_turn h ∙ rw (get_or-eq_default bytes 0 l, ne_eqb 0 kind (λ e. omega (arith, e, k)))
+  pub kinds_other : n < count → {b : ℕ} → (b ≡ kind → ⊥) → b ≡ get_or bytes (size * n) 0 → kinds_from size kind bytes (size * n) (count - n) ≡ false
+  kinds_other h d p = kinds_turn h ∙ rw (← p, ne_eqb _ kind d)
 
-  pub kinds_other : n < count → (get_or bytes at 0 ≡ kind → ⊥) → kinds_from size kind bytes at (count - n) ≡ false
-  kinds_other h d = kinds_turn h ∙ rw (ne_eqb (get_or bytes at 0) kind d)
+  pub kinds_pass : n < count → get_or bytes (size * n) 0 ≡ kind → kinds_from size kind bytes (size * n) (count - n) ≡ kinds_from size kind bytes (size * (n + 1)) (count - (n + 1))
+  kinds_pass h d = kinds_turn h ∙ rw (eq-eqb (get_or bytes (size * n) 0) kind d)
 
-  pub kinds_pass : n < count → get_or bytes at 0 ≡ kind → kinds_from size kind bytes at (count - n) ≡ kinds_from size kind bytes (at + size) (count - (n + 1))
-  kinds_pass h d = kinds_turn h ∙ rw (eq-eqb (get_or bytes at 0) kind d)
-
-  pub kinds_end : count ≤ n → kinds_from size kind bytes at (count - n) ≡ true
+  pub kinds_end : count ≤ n → kinds_from size kind bytes (size * n) (count - n) ≡ true
   unfolding kinds_from
   kinds_end h = let e : count - n ≡ 0 = omega arith in rw e
+
+pub kinds_start : (size kind : ℕ) (bytes : List ℕ) (count : ℕ) → kinds_from size kind bytes 0 count ≡ kinds_from size kind bytes (size * 0) (count - 0)
+kinds_start size kind bytes count = let e : count - 0 ≡ count = omega arith in let f : size * 0 ≡ 0 = omega arith in rw (e, f)
+
+pub ruleset kinds_turns = (kinds_start, kinds_pass, kinds_end)
 
 -- a faultless chain's equation, whatever bound its numbers are given
 step_agrees : (f g : ℕ → Bool) (m k : ℕ) → ((j : ℕ) → j < k → f j ≡ g j) → (e : Option Entry) → sound_step f m k e ≡ sound_step g m k e
@@ -148,6 +158,8 @@ module _ (room line : List ℕ) (gap level i : ℕ) where
         unfolding same_levels
         same_agrees n = rw (levels_symbol line i level h d p e, eq-eqb (get_or room (gap + 1) 0) level n)
 
+pub ruleset level_turns = (rest_skip, rest_keep, rest_digit, same_digit, same_other, same_differs, same_agrees)
+
 -- an output's levels, as a room has them
 module _ (entries line : List ℕ) (m output : ℕ) (size : m ≡ length (symbols_of line)) (short : m ≤ pattern_limit) where
   level_byte : (gap : ℕ) → gap < suc m → get_or (raise_all (m + 2) (chain entries m (m + 2) output) (replicate room_size 0)) (gap + 1) 0 ≡ highest_set (chain entries m m output) gap
@@ -169,19 +181,6 @@ module _ (entries line : List ℕ) (m output : ℕ) (size : m ≡ length (symbol
   pub exact_faulty : sound entries m output ≡ false → false ≡ exact_test entries (levels_from 0 line) m output
   unfolding exact_test
   exact_faulty s = rw s
-
--- a table's kinds: its cells', and then its entries'
-module _ (cells entries : List ℕ) (c e : ℕ) {a : Bool} (x : a ≡ kinds_from cell_size cell_kind cells 0 c) where
-  pub cells_other : a ≡ false → a ≡ kinds_test cells entries c e
-  unfolding kinds_test
-  cells_other z = z ∙ rw (← x, z)
-
-  pub cells_pass : a ≡ true → {b : Bool} → b ≡ kinds_from entry_size entry_kind entries 0 e → b ≡ kinds_test cells entries c e
-  unfolding kinds_test
-  cells_pass z y = rw (← x, z) y
-
-pub kinds_start : (size kind : ℕ) (bytes : List ℕ) (count : ℕ) → kinds_from size kind bytes 0 count ≡ kinds_from size kind bytes 0 (count - 0)
-kinds_start size kind bytes count = let e : count - 0 ≡ count = omega arith in rw e
 
 -- how the table goes on from a node
 module _ (cells : List ℕ) (node : Node) (s : ℕ) where
@@ -211,6 +210,8 @@ module _ (cells : List ℕ) (node : Node) where
 
     pub free_miss : is_some l ≡ false → free s ≡ true
     free_miss q = ap (λ (k : Look). not (is_hit k)) (sym (child_look cells node s e p)) ∙ ap not q
+
+pub ruleset none_turns = (none_leaf, none_start, all_pass, free_miss)
 
 -- the symbols that the list passes over, below the line's own and above it
 module _ (cells : List ℕ) (beside : Beside) (node : Node) (m s : ℕ) where
@@ -242,16 +243,6 @@ module _ (cells : List ℕ) (beside : Beside) (node : Node) (m s : ℕ) where
 -- The output of a beginning of m symbols passes: the line above has the beginning, or the output is 0.
 pub record Quiet (known output m : ℕ) : Type 0 where
   pub passes : (leb m known || eqb output 0) ≡ true
-
-pub quiet_known : (known output m : ℕ) → m ≤ known → Quiet known output m
-quiet_known known output m h = record { passes = rw (le-leb m known h) }
-
-pub quiet_zero : (known output m : ℕ) → eqb output 0 ≡ true → Quiet known output m
-quiet_zero known output m e = record { passes = go (leb m known) }
-  where
-    go : (z : Bool) → (z || eqb output 0) ≡ true
-    go true = refl
-    go false = e
 
 -- one pattern line, followed symbol by symbol
 module _ (cells entries levels : List ℕ) (beside : Beside) (node : Node) (output m : ℕ) where
@@ -350,85 +341,79 @@ good_short l e =
     let letters = (both (any_of small l) _ form).1 in
     leb-true (length (symbols_of l)) pattern_limit (both (any_of digit l) _ letters).1
 
--- the loop over the lines of a good text
-module _ (w : List ℕ) (at e : ℕ) (above : List ℕ) (h : at < length w) (q : e ≡ at + line_length (drop at w)) (g : first_bad Patterns at above (cut (drop at w)) ≡ Ok tt) where
-  passes : Passed Patterns at above (take (e - at) (drop at w)) (cut (drop e w))
-  passes = passed Patterns at above (take (e - at) (drop at w)) (cut (drop e w)) (ap (first_bad Patterns at above) (sym (cut_line w at e h q)) ∙ g)
+-- the lines that are left, where the next one is in hand: `rest` is what is left of the text behind it
+abbrev pub ahead : Option (Bor (List ℕ)) → List ℕ → List (List ℕ)
+ahead None rest = []
+ahead (Some line) rest = line.now ∷ cut rest
 
-  lines_good : first_bad Patterns e (take (e - at) (drop at w)) (cut (drop e w)) ≡ Ok tt
-  lines_good =
-      let s : at + length (take (e - at) (drop at w)) ≡ e = omega (arith, line_size w at e h q, line_starts w at e h q) in
-      ap (λ (k : ℕ). first_bad Patterns k (take (e - at) (drop at w)) (cut (drop e w))) (sym s) ∙ passes.onward
+-- `next` of the lines of a text takes the first of them in hand. The closure tells line feeds.
+pub ahead_next : {F : Type 0} (g : Mut F (Bor ℕ × Unit {0}) Bool) {f : F} (f' : F) (T : Type 0) (text rest : List ℕ) (next : Option (Bor (List ℕ)))
+    → MatchOption next ((length text ≡ 0) × T)
+    (λ x. (text ≡ x.now ++ rest) × ((i : ℕ) × (length x.now ≡ min (i + 1) (length text)) × ((p : ℕ → Bool) → ComputesKey g p f → ComputesKey g p f' × IsFirstMatchOrLen p text i)) × (0 < length text))
+    → ((b : ℕ) (r : Bool) (q : F) → CalledAt g f b r q → (q ≡ f) × (r ≡ eqb b line_feed)) → cut text ≡ ahead next rest
+unfolding cut
+ahead_next g f' T [] rest None m tells = refl
+ahead_next g f' T (b ∷ t) rest None m tells = absurd (omega (arith, m.0))
+ahead_next g f' T text rest (Some x) m tells = cut_split g text x.now rest m tells
 
--- a line's end lies in the text
-pub line_in : (w : List ℕ) (i e : ℕ) → i ≤ length w → e ≡ i + line_length (drop i w) → (i ≤ e) × (e ≤ length w)
-line_in w i e h q = go (dec_lt i (length w))
+-- where a line parts from the line in hand, of which there is none at the end
+pub ahead_parts : (next : Option (Bor (List ℕ))) (rest : List ℕ) (empty : Bor (List ℕ)) {own : List ℕ} {line : Bor (List ℕ)} {kept symbol : ℕ} → empty.now ≡ [] → line ≡ unwrap_or next empty
+    → Parts own (symbols_of line.now) kept symbol → Parts own (first_symbols (map pattern_of (ahead next rest))) kept symbol
+unfolding pattern_of symbols_of
+ahead_parts next rest empty {own = own} {line = line} {kept = kept} {symbol = symbol} e p = subst (λ (l : List ℕ). Parts own l kept symbol) (go next p)
   where
-    go : Dec (i < length w) → (i ≤ e) × (e ≤ length w)
-    go (yes k) = (omega arith, line_ends w i e k q)
-    go (no k) = let n : i ≡ length w = omega arith in (omega arith, omega (arith, sym (end_out i w i refl (omega arith)), q))
-
--- the first of the patterns from a place on
-first_symbols_lem : (w : List ℕ) (i e : ℕ) → e ≡ i + line_length (drop i w) → first_symbols (map pattern_of (cut (drop i w))) ≡ symbols_of (take (e - i) (drop i w))
-unfolding pattern_of cut symbols_of
-first_symbols_lem w i e q = go (dec_lt i (length w))
-  where
-    go : Dec (i < length w) → first_symbols (map pattern_of (cut (drop i w))) ≡ symbols_of (take (e - i) (drop i w))
-    go (yes k) = rw (cut_line w i e k q)
-    go (no k) = let h : length w ≤ i = omega arith in rw (drop_of_length-le w h, take-nil {A = ℕ} (e - i))
+    go : (next : Option (Bor (List ℕ))) → line ≡ unwrap_or next empty → symbols_of line.now ≡ first_symbols (map pattern_of (ahead next rest))
+    go None p = rw (p, e)
+    go (Some x) p = rw p
 
 -- What holds between two lines of a good text: what the line at hand shares with the one above it, and what is left to test.
-pub record Lined (cells entries : List ℕ) (root : ℕ) (w : List ℕ) (known low at end : ℕ) : Type 0 where
+pub record Lined (cells entries : List ℕ) (root : ℕ) (w : List ℕ) (known low : ℕ) (lines : List (List ℕ)) : Type 0 where
   pub above : List ℕ
-  pub within : at ≤ length w
-  pub ends : end ≡ at + line_length (drop at w)
-  pub good : first_bad Patterns at above (cut (drop at w)) ≡ Ok tt
-  pub shares : known ≡ common (symbols_of above) (symbols_of (take (end - at) (drop at w)))
-  pub follows : low ≡ get_or (symbols_of above) (common (symbols_of above) (symbols_of (take (end - at) (drop at w)))) 0
-  pub same : patterns_right cells entries root [] (patterns_of w) ≡ patterns_right cells entries root (symbols_of above) (map pattern_of (cut (drop at w)))
+  pub at : ℕ
+  pub good : first_bad Patterns at above lines ≡ Ok tt
+  pub shares : known ≡ common (symbols_of above) (first_symbols (map pattern_of lines))
+  pub follows : low ≡ get_or (symbols_of above) (common (symbols_of above) (first_symbols (map pattern_of lines))) 0
+  pub same : patterns_right cells entries root [] (patterns_of w) ≡ patterns_right cells entries root (symbols_of above) (map pattern_of lines)
 
 module _ (cells entries : List ℕ) (root : ℕ) (w : List ℕ) where
-  pub lined_start : (end : ℕ) → judge_lines Patterns w ≡ Ok tt → end ≡ 0 + line_length (drop 0 w) → Lined cells entries root w 0 0 0 end
+  pub lined_start : (text : List ℕ) (lines : List (List ℕ)) → text ≡ w → cut text ≡ lines → judge_lines Patterns w ≡ Ok tt → Lined cells entries root w 0 0 lines
   unfolding judge_lines patterns_of symbols_of common
-  lined_start end g q = record { above = []; within = omega arith; ends = q; good = g; shares = refl; follows = refl; same = refl }
+  lined_start text lines e f g =
+      subst (Lined cells entries root w 0 0) (ap cut (sym e) ∙ f) (record { above = []; at = 0; good = g; shares = refl; follows = refl; same = refl })
 
-  module _ (known low at end : ℕ) (l : Lined cells entries root w known low at end) where
-    pub lined_done : length w ≤ at → {r : Bool} → r ≡ none_between cells (root_at root) low (suc symbol_limit) → r ≡ patterns_right cells entries root [] (patterns_of w)
-    lined_done h q = q ∙ sym (l.same ∙ last)
-      where
-        none : common (symbols_of l.above) (symbols_of (take (end - at) (drop at w))) ≡ 0
-        none = unfold symbols_of in rw (drop_of_length-le w h, take-nil {A = ℕ} (end - at)) (common_none (symbols_of l.above))
+  module _ (known low : ℕ) where
+    pub lined_done : (next : Option (Bor (List ℕ))) (text : List ℕ) → ((line : Bor (List ℕ)) → next ≡ Some line → ⊥) → Lined cells entries root w known low (ahead next text)
+        → {r : Bool} → r ≡ none_between cells (root_at root) low (suc symbol_limit) → r ≡ patterns_right cells entries root [] (patterns_of w)
+    unfolding patterns_right
+    lined_done None text none l q = q ∙ sym (l.same ∙ rw (l.follows, common_none (symbols_of l.above)))
+    lined_done (Some x) text none l q = absurd (none x refl)
 
-        last : patterns_right cells entries root (symbols_of l.above) (map pattern_of (cut (drop at w))) ≡ none_between cells (root_at root) low (suc symbol_limit)
-        last = unfold patterns_right cut in rw (drop_of_length-le w h, l.follows, none)
+    -- with a line in hand, and the next one taken
+    module _ (next below : Option (Bor (List ℕ))) (text rest : List ℕ) {own : Bor (List ℕ)} (e : next ≡ Some own) (f : cut text ≡ ahead below rest) (l : Lined cells entries root w known low (ahead next text)) where
+      at_line : Lined cells entries root w known low (own.now ∷ ahead below rest)
+      at_line = subst (λ (ls : List (List ℕ)). Lined cells entries root w known low (own.now ∷ ls)) f (subst (λ (o : Option (Bor (List ℕ))). Lined cells entries root w known low (ahead o text)) e l)
 
-    module _ (h : at < length w) where
-      pub line_short : length (symbols_of (take (end - at) (drop at w))) ≤ pattern_limit
-      line_short = good_short (take (end - at) (drop at w)) (passes w at end l.above h l.ends l.good).good
+      passes : Passed Patterns at_line.at at_line.above own.now (ahead below rest)
+      passes = passed Patterns at_line.at at_line.above own.now (ahead below rest) at_line.good
 
-      module _ (next : ℕ) (q : next ≡ end + line_length (drop end w)) {kept symbol : ℕ} (p : Parts (symbols_of (take (end - at) (drop at w))) (symbols_of (take (next - end) (drop end w))) kept symbol)
-          {r : Bool} (f : r ≡ follow cells entries (levels_from 0 (take (end - at) (drop at w))) (record { known = known; low = low; kept = kept }) (root_at root) 0 0 (symbols_of (take (end - at) (drop at w)))) where
-        turn : patterns_right cells entries root [] (patterns_of w) ≡ (r && patterns_right cells entries root (symbols_of (take (end - at) (drop at w))) (map pattern_of (cut (drop end w))))
+      pub fewer : length (ahead below rest) < length (ahead next text)
+      fewer = omega (arith, ap (λ (o : Option (Bor (List ℕ))). length (ahead o text)) e, ap length f)
+
+      pub line_short : length (symbols_of own.now) ≤ pattern_limit
+      line_short = good_short own.now passes.good
+
+      module _ {kept symbol : ℕ} (p : Parts (symbols_of own.now) (first_symbols (map pattern_of (ahead below rest))) kept symbol)
+          {r : Bool} (q : r ≡ follow cells entries (levels_from 0 own.now) (record { known = known; low = low; kept = kept }) (root_at root) 0 0 (symbols_of own.now)) where
+        turn : patterns_right cells entries root [] (patterns_of w) ≡ (r && patterns_right cells entries root (symbols_of own.now) (map pattern_of (ahead below rest)))
         unfolding patterns_right pattern_of besides
-        turn =
-            l.same
-            ∙ ap (λ (ls : List (List ℕ)). patterns_right cells entries root (symbols_of l.above) (map pattern_of ls)) (cut_line w at end h l.ends)
-            ∙ rw (first_symbols_lem w end next q, ← l.follows, ← l.shares, ← p.count, ← f)
+        turn = at_line.same ∙ rw (← at_line.follows, ← at_line.shares, ← p.count, ← q)
 
         pub lined_wrong : r ≡ false → patterns_right cells entries root [] (patterns_of w) ≡ false
         lined_wrong z = turn ∙ rw z
 
-        pub lined_on : r ≡ true → Lined cells entries root w kept symbol end next
+        pub lined_on : r ≡ true → Lined cells entries root w kept symbol (ahead below rest)
         lined_on z =
-            record {
-              above = take (end - at) (drop at w);
-              within = (line_in w at end l.within l.ends).1;
-              ends = q;
-              good = lines_good w at end l.above h l.ends l.good;
-              shares = p.count;
-              follows = p.next;
-              same = turn ∙ rw z;
-            }
+            record { above = own.now; at = at_line.at + length own.now; good = passes.onward; shares = p.count; follows = p.next; same = turn ∙ rw z }
 
 -- the checker's last ground: the kinds, and then the list's paths
 module _ (text table : List ℕ) {cells entries : List ℕ} {c e : ℕ} (p : cells ≡ cells_of table) (q : entries ≡ entries_of table) (n : c ≡ cell_count table) (k : e ≡ entry_count table)

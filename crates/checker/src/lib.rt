@@ -18,24 +18,21 @@ use rightness::{Beside, Node};
 use table::{Cell, Entry};
 
 // The kinds of so many records that stand size bytes apart.
+#[tactic(auto, using(crate::proofs::Laws::kinds_turns))]
 fn are_kinds(bytes: &[u8], size: usize, kind: u8, count: u16) -> bool
-    requires { (0 < kind) × (size ≤ cell_size) }
+    requires { size ≤ cell_size }
     ensures { result ≡ kinds_from size kind bytes.now 0 count }
 {
-    let mut at: usize = 0;
-    for _n in 0..count {
-        if bytes.len() <= at {
+    for n in 0..count as usize {
+        if bytes.get(size * n).copied().unwrap_or(0) != kind {
             return false;
         }
-        if bytes[at] != kind {
-            return false;
-        }
-        at += size;
     }
     true
 }
 
 // Do a table's cells and entries have their kinds?
+#[tactic(auto, unfolding(rightness::specs::Test::kinds_test))]
 fn has_kinds(cells: &[u8], entries: &[u8], c: u16, e: u16) -> bool
     ensures { result ≡ kinds_test cells.now entries.now c e }
 {
@@ -76,6 +73,7 @@ fn is_sound(entries: &&[u8], k: u16, m: usize) -> bool
 }
 
 // Do the levels of a chain, in a room as walk::chain_levels leaves it, agree with a line's?
+#[tactic(auto, using(crate::proofs::Laws::level_turns))]
 fn are_levels(line: &[u8], room: &[u8; base::ROOM_SIZE]) -> bool
     requires { length (symbols_of line.now) ≤ pattern_limit }
     ensures { result ≡ same_levels room.now 0 (levels_from 0 line.now) }
@@ -100,6 +98,7 @@ fn are_levels(line: &[u8], room: &[u8; base::ROOM_SIZE]) -> bool
 }
 
 // Is an output exact for a pattern line of m symbols?
+#[tactic(auto, using(crate::proofs::Laws::exact_levels, crate::proofs::Laws::exact_faulty))]
 fn is_exact(entries: &[u8], line: &[u8], m: usize, output: u16) -> bool
     requires { (m ≡ length (symbols_of line.now)) × (m ≤ pattern_limit) }
     ensures { result ≡ exact_test entries.now (levels_from 0 line.now) m output }
@@ -113,6 +112,7 @@ fn is_exact(entries: &[u8], line: &[u8], m: usize, output: u16) -> bool
 }
 
 // Does the table go on from a node with no symbol between two others?
+#[tactic(auto, using(crate::proofs::Laws::none_turns))]
 fn is_none_between(cells: &[u8], node: Node, low: u8, high: u8) -> bool
     ensures { result ≡ none_between cells.now node low high }
 {
@@ -195,24 +195,21 @@ fn is_right(text: &[u8], cells: &[u8], entries: &[u8], root: u16) -> bool
 {
     let mut known: usize = 0;
     let mut low: u8 = 0;
-    let mut at = 0;
-    let mut end = lines::line_end(text, 0);
-    // `lines::line_end` says where the next line begins; nothing is counted.
-    while at < text.len() {
-        let next = lines::line_end(text, end);
-        let below = patterns::part_lines(&text[at..end], &text[end..next]);
+    let mut lines = text.split_inclusive(|b| *b == words::LINE_FEED);
+    let mut next = lines.next();
+    while let Some(own) = next {
+        next = lines.next();
+        let below = patterns::part_lines(own, next.unwrap_or(&[]));
         let beside = Beside {
-            known: known,
-            low: low,
+            known,
+            low,
             kept: below.shared,
         };
-        if !is_followed(cells, entries, root, &text[at..end], beside) {
+        if !is_followed(cells, entries, root, own, beside) {
             return false;
         }
         known = below.shared;
         low = below.symbol;
-        at = end;
-        end = next;
     }
     let node = Node {
         leaf: false,

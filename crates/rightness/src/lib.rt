@@ -10,7 +10,8 @@ pub struct Node {
 }
 
 // What a pattern has in common with its neighbours: how many symbols with the pattern above, with which symbol that one goes on
-// behind them (0 where it ends there), and how many symbols with the pattern below.
+// behind them (0 where it ends there), and how many symbols with the pattern below. `low` is no Option, since 0 stands below every symbol:
+// `none_between`, which asks the symbols above it (specs/Test.antt, passed_over and besides), begins with the first one in that case.
 #[derive(Clone, Copy)]
 pub struct Beside {
     pub known: usize,
