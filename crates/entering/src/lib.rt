@@ -18,7 +18,6 @@ pub struct Made {
 }
 
 // Is the entry at a place this one? Its kind is not asked for: whatever entering has put there is an entry.
-#[tactic(auto, unfolding(fit::specs::Entries::holds))]
 fn is_entry(bytes: &[u8; table::ENTRY_ROOM], at: usize, entry: Entry) -> bool
     requires { at + entry_size ≤ entry_room }
     ensures { result ≡ fit.holds bytes.now at entry.distance entry.level entry.next }

@@ -27,7 +27,6 @@ fn all_marked<F: Fn(u8) -> bool>(mask: &[u8; patterns::MASK_SIZE], passes: F) ->
 }
 
 // Is the cell numbered base + symbol free?
-#[tactic(auto, unfolding(fit::specs::Cells::is_free))]
 fn is_free(cells: &[u8; table::CELL_ROOM], base: u16, symbol: u8) -> bool
     ensures { result ≡ is_free cells.now (base + symbol) }
 {
@@ -192,7 +191,8 @@ fn take_base(taken: &mut [u8; base::CELL_LIMIT], base: u16)
     }
 }
 
-// A path gets its base.
+// A path gets its base. Cells, marks and the root's base stay three parameters: of a struct that keeps the lent cells each method would have to
+// promise that it still keeps them.
 #[tactic(auto, using(crate::proofs::Laws::path_full, crate::proofs::Laws::path_fits))]
 fn place_path(
     cells: &mut [u8; table::CELL_ROOM],
