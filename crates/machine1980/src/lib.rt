@@ -44,6 +44,7 @@ const LAST_LETTERS: usize = 3;
 const SHEET_SIZE: usize = base::WORD_LIMIT_1980 + 2;
 
 // The grounds of the call: 5, 2, 4, 3.
+#[tactic(auto, unfolding(crate::specs::Calls::grounds1980, base::specs::Grounds::says, base::specs::Grounds::first_of))]
 pub fn judge_1980(word: &[u8], size: usize) -> Result<(), Ground>
     ensures { says result ≡ first_of (Finds []) (grounds1980 word.now size) }
 {
@@ -53,41 +54,30 @@ pub fn judge_1980(word: &[u8], size: usize) -> Result<(), Ground>
     words::judge_letters(word, base::WORD_LIMIT_1980)
 }
 
-// Phases 3 and 4, with what phase 2 has left of the budget.
-fn run_on(budget: usize, left: usize, finale: usize, n: usize, sheet: &mut [u8]) -> Option<Made>
-    requires { (left ≤ budget) × (short_word1980 < n) × (n ≤ word_limit1980) × Sheet n sheet.old }
-    ensures { joined result sheet.new ≡ from_prefixes budget n finale (phase3 left sheet.old) }
-{
-    let stopped = prefix1980::remove_prefixes(left, n, sheet)?;
-    middle1980::mark_middle(finale, n, stopped.next, sheet);
-    Some(Made {
-        finale,
-        executed: budget - stopped.left,
-    })
-}
-
-// Phases 2 to 4.
+// Phases 2 to 4: what the first machine leaves of the budget is the second's.
+#[tactic(auto, unfolding(crate::specs::Run::run, crate::specs::Run::from_suffixes, crate::specs::Run::from_prefixes))]
 fn run_machine(budget: usize, n: usize, sheet: &mut [u8]) -> Option<Made>
     requires { (short_word1980 < n) × (n ≤ word_limit1980) × Sheet n sheet.old }
     ensures { joined result sheet.new ≡ run budget n sheet.old }
 {
-    let stopped = suffix1980::remove_suffixes(budget, n, sheet)?;
-    run_on(budget, stopped.left, stopped.next, n, sheet)
+    let suffixed = suffix1980::remove_suffixes(budget, n, sheet)?;
+    let finale = suffixed.next;
+    let prefixed = prefix1980::remove_prefixes(suffixed.left, n, sheet)?;
+    middle1980::mark_middle(finale, n, prefixed.next, sheet);
+    Some(Made {
+        finale,
+        executed: budget - prefixed.left,
+    })
 }
 
 // Does a hyphen show before letter k?
+#[tactic(auto, unfolding(crate::specs::Breaks::shows))]
 fn is_shown(finale: usize, sheet: &[u8], k: usize) -> bool
     requires { k ≤ word_limit1980 }
     ensures { result ≡ shows finale sheet.now k }
 {
     let at = sheet1980::U + k;
-    if sheet1980::code_at(sheet, at) != 0 {
-        return false;
-    }
-    if at + 2 < finale {
-        return true;
-    }
-    finale < at
+    sheet1980::code_at(sheet, at) == 0 && (at + 2 < finale || finale < at)
 }
 
 // The hyphens that show, put into a room as breaks.
@@ -103,6 +93,7 @@ fn put_breaks(n: usize, finale: usize, sheet: &[u8], room: &mut [u8])
 }
 
 // What is found of a judged word of more than four letters in a judged room, on a sheet of its size. The room is written at the end.
+#[tactic(auto, using(words::proofs::Laws::letters_fit, crate::proofs::Written::written, crate::proofs::Laws::taken), unfolding(crate::specs::Calls::said1980, crate::specs::Calls::values_of, crate::specs::Calls::left_by, crate::specs::Run::machine))]
 fn reprint_on(budget: usize, word: &[u8], sheet: &mut [u8], room: &mut [u8]) -> Option<Reprint>
     requires { (judge_letters word_limit1980 word.now ≡ Ok tt) × (short_word1980 < length word.now) × (length sheet.old ≡ length word.now + 2) × (room_size1980 ≤ length room.old) }
     ensures { Answered budget word.now room.old (Ok result) room.new }
@@ -118,6 +109,7 @@ fn reprint_on(budget: usize, word: &[u8], sheet: &mut [u8], room: &mut [u8]) -> 
 }
 
 // What is found of a judged word in a judged room.
+#[tactic(auto, using(words::proofs::Laws::letters_fit, rooms::proofs::Laws::cleared_sheet, crate::proofs::Laws::no_breaks, crate::proofs::Laws::no_marks_short), unfolding(crate::specs::Calls::said1980, crate::specs::Calls::values_of, crate::specs::Calls::left_by, crate::specs::Run::machine))]
 fn find_breaks(budget: usize, word: &[u8], room: &mut [u8]) -> Option<Reprint>
     requires { (judge_letters word_limit1980 word.now ≡ Ok tt) × (room_size1980 ≤ length room.old) }
     ensures { Answered budget word.now room.old (Ok result) room.new }
@@ -135,6 +127,7 @@ fn find_breaks(budget: usize, word: &[u8], room: &mut [u8]) -> Option<Reprint>
 }
 
 // The call under a budget.
+#[tactic(auto, using(crate::proofs::Order::sizes))]
 pub fn hyphenate_within(
     budget: usize,
     word: &[u8],

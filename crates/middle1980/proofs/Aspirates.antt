@@ -10,7 +10,7 @@ use Rattle.base.proofs.Lists.{never, both}
 use Rattle.tables1980.specs.Pairs.{pair_words, btable}
 use Rattle.tables1980.proofs.Table.{every, at}
 use Rattle.tables1980.proofs.Readers.{pair_before, pair_in, pair_past}
-use Rattle.middle1980.specs.Middles.{joins_h, with_h}
+use Rattle.middle1980.specs.Middles.{joins_h}
 
 -- a row's number is its code less 2: no letter before c nor behind t
 near : ℕ → ℕ → Bool
@@ -49,7 +49,3 @@ joins_rows c e = go (ltb c 2) refl
     go : (z : Bool) → ltb c 2 ≡ z → (3 ≤ c) × (c ≤ 20)
     go true p = never (sym (joins_none c (sym (pair_before c (ltb-true c 2 p)))) ∙ e)
     go false p = inside (ltb-false c 2 p) (ltb (c - 2) 30) refl
-
-pub with_h_some : (c : ℕ) → joins_h c ≡ true → {x : ℕ} → x ≡ with_h c → 1 ≤ x
-unfolding with_h
-with_h_some c e p = omega (arith, p, (joins_rows c e).0)

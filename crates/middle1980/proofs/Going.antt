@@ -1,7 +1,7 @@
 -- The loop over the labels: one law for each way through it.
 use Prim.Native.Nat.{ℕ, zero, suc, ◌-◌, ◌<◌, ◌≤◌}
 use mathlib.Core.List.{List}
-use mathlib.Core.Path.{◌≡◌, refl, sym, ◌∙◌, ap, subst}
+use mathlib.Core.Path.{◌≡◌, refl, sym, ap, subst}
 use native.Mathlib.Omega.{arith}
 use Rattle.std.specs.Prelude.{Some, None}
 use Rattle.sheet1980.specs.Sheet.{Sheet}
@@ -23,19 +23,19 @@ pub record Going (finale n : ℕ) (whole : Middle) (at : Step) (sheet : List ℕ
   pub rest : phase4 n finale whole ≡ sheet_in (middles steps finale (joined at sheet))
   pub fine : Fine n steps (joined at sheet)
 
-fine_at : (n : ℕ) (label : Label) (i b c : ℕ) (sheet : List ℕ) → Sheet n sheet → Place n label i c → Fine n (enough n) (Goto label i b c sheet)
+few_come : (n : ℕ) (label : Label) (i c : ℕ) → Place n label i c → to_come n label i < enough n
 unfolding to_come rank
-fine_at n Marki i b c sheet s p = (s, p, omega (arith, p.0))
-fine_at n Phase4c i b c sheet s p = (s, p, omega (arith, p.0))
-fine_at n Vowelscan i b c sheet s p = (s, p, omega (arith, p.0))
-fine_at n Checkc i b c sheet s p = (s, p, omega (arith, p.0))
-fine_at n Phase4v i b c sheet s p = (s, p, omega (arith, p.0))
-fine_at n Phase4vc i b c sheet s p = (s, p, omega (arith, p.0))
-fine_at n Ertest i b c sheet s p = (s, p, omega (arith, p.0))
+few_come n Marki i c p = omega (arith, p.0)
+few_come n Phase4c i c p = omega (arith, p.0)
+few_come n Vowelscan i c p = omega (arith, p.0)
+few_come n Checkc i c p = omega (arith, p.0)
+few_come n Phase4v i c p = omega (arith, p.0)
+few_come n Phase4vc i c p = omega (arith, p.0)
+few_come n Ertest i c p = omega (arith, p.0)
 
 start_fine : (n : ℕ) (at : Step) (sheet : List ℕ) → Sheet n sheet → Placed n at → Fine n (enough n) (joined at sheet)
-start_fine n (Some r) sheet s p = fine_at n r.label r.i r.b r.c sheet s p
-start_fine n None sheet s p = s
+start_fine n (Some r) sheet s p = record { kept = s; stands = (p, few_come n r.label r.i r.c p) }
+start_fine n None sheet s p = record { kept = s; stands = tt }
 
 pub start : (finale n : ℕ) (at : Step) (sheet : List ℕ) → Sheet n sheet → Placed n at → Going finale n (joined at sheet) at sheet
 unfolding phase4
@@ -47,7 +47,7 @@ ended zero finale sheet = refl
 ended (suc steps) finale sheet = refl
 
 pub stopped : (finale n : ℕ) (whole : Middle) (sheet : List ℕ) {at : Step} → at ≡ None → Going finale n whole at sheet → sheet ≡ phase4 n finale whole
-stopped finale n whole sheet e g = sym (g.rest ∙ ap (λ (x : Step). sheet_in (middles g.steps finale (joined x sheet))) e ∙ ended g.steps finale sheet)
+stopped finale n whole sheet e g = let h = ended g.steps finale sheet in cc
 
 turn : (steps finale : ℕ) (label : Label) (i b c : ℕ) (sheet : List ℕ) → 0 < steps
     → middles steps finale (Goto label i b c sheet) ≡ middles (steps - 1) finale (onward finale label i b c sheet)
@@ -57,12 +57,12 @@ turn (suc steps) finale label i b c sheet h = let e : steps ≡ suc steps - 1 = 
 
 -- fewer labels may come
 wider : (n m k : ℕ) (x : Middle) → m ≤ k → Fine n m x → Fine n k x
-wider n m k (Goto label i b c sheet) h f = (f.0, f.1, omega (arith, f.2))
-wider n m k (Phase5 sheet) h f = f
+wider n m k (Goto label i b c sheet) h f = record { kept = f.kept; stands = (f.stands.0, omega (arith, f.stands.1)) }
+wider n m k (Phase5 sheet) h f = record { kept = f.kept; stands = tt }
 
 left_less : (n m : ℕ) (at : Step) (sheet : List ℕ) → Fine n m (joined at sheet) → steps_left n at ≤ m
 unfolding steps_left
-left_less n m (Some r) sheet f = omega (arith, f.2)
+left_less n m (Some r) sheet f = omega (arith, f.stands.1)
 left_less n m None sheet f = omega arith
 
 module _ (finale n : ℕ) (whole : Middle) (r : registers.Goto) (sheet : List ℕ) (at : Step) (e : at ≡ Some r) (g : Going finale n whole at sheet) where
@@ -70,17 +70,14 @@ module _ (finale n : ℕ) (whole : Middle) (r : registers.Goto) (sheet : List �
   here = subst (λ (x : Step). Fine n g.steps (joined x sheet)) e g.fine
 
   goal : (next : Step) (after : List ℕ) → joined next after ≡ onward finale r.label r.i r.b r.c sheet → Fine n (to_come n r.label r.i) (joined next after)
-  goal next after k = subst (λ (x : Middle). Fine n (to_come n r.label r.i) x) (sym k) (onward_fine n finale r.label r.i r.b r.c sheet here.0 here.1)
+  goal next after k = subst (λ (x : Middle). Fine n (to_come n r.label r.i) x) (sym k) (onward_fine n finale r.i r.b r.c sheet here.kept r.label here.stands.0)
 
   pub turned : (next : Step) (after : List ℕ) → joined next after ≡ onward finale r.label r.i r.b r.c sheet → Going finale n whole next after
   turned next after k =
       record {
         steps = g.steps - 1;
-        rest = g.rest
-            ∙ ap (λ (x : Step). sheet_in (middles g.steps finale (joined x sheet))) e
-            ∙ ap sheet_in (turn g.steps finale r.label r.i r.b r.c sheet (omega (arith, here.2)))
-            ∙ ap (λ (x : Middle). sheet_in (middles (g.steps - 1) finale x)) (sym k);
-        fine = wider n (to_come n r.label r.i) (g.steps - 1) (joined next after) (omega (arith, here.2)) (goal next after k);
+        rest = let h = turn g.steps finale r.label r.i r.b r.c sheet (omega (arith, here.stands.1)) in cc;
+        fine = wider n (to_come n r.label r.i) (g.steps - 1) (joined next after) (omega (arith, here.stands.1)) (goal next after k);
       }
 
   -- the number that falls

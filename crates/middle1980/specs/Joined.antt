@@ -1,5 +1,5 @@
 -- What the code tells, joined with the sheet.
-use Rattle.std.specs.Prelude.{ℕ, ◌+◌, ◌≤◌, ◌<◌, List, ◌≡◌, Option, Some, None}
+use Rattle.std.specs.Prelude.{ℕ, ◌+◌, ◌≤◌, ◌<◌, List, Option, Some, None}
 use Rattle.sheet1980.specs.Sheet.{u}
 use Rattle.middle1980.specs.Middles.{Middle, Goto, Phase5}
 use Rattle.middle1980.specs.declared.Label.{Label}
@@ -13,10 +13,6 @@ Step = Option registers.Goto
 abbrev pub joined : Step → List ℕ → Middle
 joined (Some at) sheet = Goto at.label at.i at.b at.c sheet
 joined None sheet = Phase5 sheet
-
--- What is told whatever the sheet.
-abbrev pub Joins : Step → (List ℕ → Middle) → Type 0
-Joins r f = (sheet : List ℕ) → joined r sheet ≡ f sheet
 
 -- Where i may stand at each label in a word of n letters: on a letter or just behind them.
 abbrev pub Place : ℕ → Label → ℕ → ℕ → Type 0

@@ -1,14 +1,14 @@
 // Phase 4 of the 1980 machine: the consonant pairs in the middle of a word. CR 4. Labels are 004's.
 #![tactic(auto)]
 
-ghost use Rattle.std.specs.Prelude.{◌≡◌, Some, true, ◌&&◌, ◌+◌, ◌≤◌, eqb};
+ghost use Rattle.std.specs.Prelude.{◌≡◌, Some, true, ◌&&◌, ◌+◌, ◌<◌, ◌≤◌, eqb};
 ghost use Rattle.base.specs.Limits.{word_limit1980};
 ghost use Rattle.tables1980.specs.Words.{o};
-ghost use Rattle.sheet1980.specs.Sheet.{place_bound, Sheet};
+ghost use Rattle.sheet1980.specs.Sheet.{Sheet};
 ghost use Rattle.middle1980.specs.Middles.{joins_h, with_h, is_pair, is_weak, liquid, doubled, ends_in_age, ends_in_est, weakly, paired, between, third, second, pair, ends_in_er, mark_at, scan_vowel, pass_vowel, onward, phase4};
-ghost use Rattle.middle1980.specs.Joined.{joined, Joins, Placed};
+ghost use Rattle.middle1980.specs.Joined.{joined, Placed};
 
-use sheet1980::{clear_at, code_at, is_vowel};
+use sheet1980::{clear_at, code_ahead, code_at, is_vowel};
 use tables1980::{has_bit, pair_word};
 
 #[derive(Clone, Copy)]
@@ -89,28 +89,25 @@ fn with_h(c: u8) -> u8
 
 #[tactic(auto, unfolding(crate::specs::Middles::is_pair))]
 fn is_pair(b: u8, c: u8) -> bool
-    requires { 1 ≤ c }
     ensures { result ≡ is_pair b c }
 {
-    has_bit(pair_word(b), c - 1)
+    has_bit(pair_word(b), c.saturating_sub(1))
 }
 
 #[tactic(auto, unfolding(crate::specs::Middles::is_weak))]
 fn is_weak(b: u8, c: u8) -> bool
-    requires { 1 ≤ c }
     ensures { result ≡ is_weak b c }
 {
     let weak = ((pair_word(b) >> 3) % 8) as u8;
-    has_bit(pair_word(weak + WEAK_ROWS), c - 1)
+    has_bit(pair_word(weak + WEAK_ROWS), c.saturating_sub(1))
 }
 
 // ll or ss.
-#[tactic(auto, unfolding(crate::specs::Middles::liquid))]
+#[tactic(auto, using(sheet1980::proofs::Sheets::on_sheet), unfolding(crate::specs::Middles::liquid))]
 fn go_liquid(at: Goto, sheet: &[u8]) -> Step
-    requires { at.i ≤ place_bound }
     ensures { joined result sheet.now ≡ liquid at.i at.b sheet.now }
 {
-    let c = code_at(sheet, at.i + 1);
+    let c = code_ahead(sheet, at.i, 1);
     let at = Goto { c, ..at };
     if c == 0 {
         None
@@ -124,7 +121,6 @@ fn go_liquid(at: Goto, sheet: &[u8]) -> Step
 // A double consonant.
 #[tactic(auto, unfolding(crate::specs::Middles::doubled))]
 fn go_doubled(at: Goto, sheet: &[u8]) -> Step
-    requires { at.i ≤ place_bound }
     ensures { joined result sheet.now ≡ doubled at.i at.b at.c sheet.now }
 {
     if at.c == LETTER_L || at.c == LETTER_S {
@@ -134,31 +130,28 @@ fn go_doubled(at: Goto, sheet: &[u8]) -> Step
     }
 }
 
-#[tactic(auto, unfolding(crate::specs::Middles::ends_in_age))]
+#[tactic(auto, using(sheet1980::proofs::Sheets::on_sheet), unfolding(crate::specs::Middles::ends_in_age))]
 fn ends_in_age(finale: usize, i: usize, sheet: &[u8]) -> bool
-    requires { i ≤ place_bound }
     ensures { result ≡ ends_in_age finale i sheet.now }
 {
-    code_at(sheet, i + 1) == LETTER_A && code_at(sheet, i + 2) == LETTER_G && finale == i + 3
+    code_ahead(sheet, i, 1) == LETTER_A && code_ahead(sheet, i, 2) == LETTER_G && finale == i + 3
 }
 
 #[tactic(auto, unfolding(crate::specs::Middles::ends_in_est))]
 fn ends_in_est(i: usize, sheet: &[u8]) -> bool
-    requires { i ≤ place_bound }
     ensures { result ≡ ends_in_est i sheet.now }
 {
-    code_at(sheet, i + 1) == LETTER_E
-        && code_at(sheet, i + 2) == LETTER_S
-        && code_at(sheet, i + 3) == LETTER_T
+    code_ahead(sheet, i, 1) == LETTER_E
+        && code_ahead(sheet, i, 2) == LETTER_S
+        && code_ahead(sheet, i, 3) == LETTER_T
 }
 
 // A weak pair.
 #[tactic(auto, unfolding(crate::specs::Middles::weakly))]
 fn go_weakly(finale: usize, at: Goto, sheet: &[u8]) -> Step
-    requires { at.i ≤ place_bound }
     ensures { joined result sheet.now ≡ weakly finale at.i at.b at.c sheet.now }
 {
-    if code_at(sheet, at.i + 4) == 0
+    if code_ahead(sheet, at.i, 4) == 0
         && (ends_in_age(finale, at.i, sheet) || ends_in_est(at.i, sheet))
     {
         None
@@ -167,45 +160,24 @@ fn go_weakly(finale: usize, at: Goto, sheet: &[u8]) -> Step
     }
 }
 
-// A pair before the vowel at i.
-#[tactic(auto, unfolding(crate::specs::Middles::paired))]
-fn go_paired(finale: usize, at: Goto, sheet: &[u8]) -> Step
-    requires { (1 ≤ at.i) × (at.i ≤ place_bound) × (1 ≤ at.c) }
-    ensures { joined result sheet.now ≡ paired finale at.i at.b at.c sheet.now }
+// The second consonant is at.c, and a vowel is wanted k places on.
+#[tactic(auto, using(sheet1980::proofs::Sheets::on_sheet), unfolding(crate::specs::Middles::third, crate::specs::Middles::between, crate::specs::Middles::paired))]
+fn go_third(finale: usize, at: Goto, k: usize, sheet: &[u8]) -> Step
+    ensures { joined result sheet.now ≡ third finale at.i (at.i + k) at.b at.c sheet.now }
 {
-    if is_weak(at.b, at.c) {
-        go_weakly(finale, Goto { i: at.i - 1, ..at }, sheet)
-    } else {
-        at.to(Label::Phase4v, at.i + 1)
-    }
-}
-
-// Vowel, consonant, consonant, vowel.
-#[tactic(auto, unfolding(crate::specs::Middles::between))]
-fn go_between(finale: usize, at: Goto, j: usize, sheet: &[u8]) -> Step
-    requires { (1 ≤ j) × (j ≤ place_bound) × (1 ≤ at.c) }
-    ensures { joined result sheet.now ≡ between finale at.i j at.b at.c sheet.now }
-{
-    if is_pair(at.b, at.c) {
-        go_paired(finale, Goto { i: j, ..at }, sheet)
-    } else {
-        at.to(Label::Marki, at.i)
-    }
-}
-
-// A vowel is wanted at j.
-#[tactic(auto, unfolding(crate::specs::Middles::third))]
-fn go_third(finale: usize, at: Goto, j: usize, sheet: &[u8]) -> Step
-    requires { (1 ≤ j) × (j ≤ place_bound) × (1 ≤ at.c) }
-    ensures { joined result sheet.now ≡ third finale at.i j at.b at.c sheet.now }
-{
-    let d = code_at(sheet, j);
+    let d = code_ahead(sheet, at.i, k);
     if d == 0 {
-        None
-    } else if is_vowel(d) {
-        go_between(finale, at, j, sheet)
-    } else {
+        return None;
+    }
+    let j = at.i + k; // a letter's place, so on the sheet
+    if !is_vowel(d) {
         at.to(Label::Phase4c, j + 1)
+    } else if !is_pair(at.b, at.c) {
+        at.to(Label::Marki, at.i)
+    } else if !is_weak(at.b, at.c) {
+        at.to(Label::Phase4v, j + 1)
+    } else {
+        go_weakly(finale, Goto { i: j - 1, ..at }, sheet)
     }
 }
 
@@ -217,27 +189,26 @@ fn joins(c: u8, next: u8) -> bool
 }
 
 // The second consonant, joined with an h or not.
-#[tactic(auto, using(crate::proofs::Aspirates::with_h_some), unfolding(crate::specs::Middles::second))]
+#[tactic(auto, unfolding(crate::specs::Middles::second))]
 fn go_second(finale: usize, at: Goto, sheet: &[u8]) -> Step
-    requires { (at.i + 2 ≤ place_bound) × (1 ≤ at.c) }
     ensures { joined result sheet.now ≡ second finale at.i at.b at.c sheet.now }
 {
-    if joins(at.c, code_at(sheet, at.i + 1)) {
+    if joins(at.c, code_ahead(sheet, at.i, 1)) {
         let c = with_h(at.c);
-        go_third(finale, Goto { c, ..at }, at.i + 2, sheet)
+        go_third(finale, Goto { c, ..at }, 2, sheet)
     } else {
-        go_third(finale, at, at.i + 1, sheet)
+        go_third(finale, at, 1, sheet)
     }
 }
 
 // A consonant b behind a vowel and the letter c behind it.
-#[tactic(auto, using(sheet1980::proofs::Sheets::consonant), unfolding(crate::specs::Middles::pair))]
+#[tactic(auto, unfolding(crate::specs::Middles::pair))]
 fn go_pair(finale: usize, at: Goto, sheet: &[u8]) -> Step
-    requires { (1 ≤ at.i) × (at.i + 2 ≤ place_bound) }
+    requires { at.i < usize.MAX }
     ensures { joined result sheet.now ≡ pair finale at.i at.b at.c sheet.now }
 {
     if at.b == LETTER_Q && at.c == LETTER_U {
-        at.to(Label::Marki, at.i - 1)
+        at.to(Label::Marki, at.i.saturating_sub(1))
     } else if is_vowel(at.c) {
         at.to(Label::Checkc, at.i + 1)
     } else if at.b == at.c {
@@ -254,21 +225,19 @@ fn go_pair(finale: usize, at: Goto, sheet: &[u8]) -> Step
 
 #[tactic(auto, unfolding(crate::specs::Middles::ends_in_er))]
 fn ends_in_er(i: usize, sheet: &[u8]) -> bool
-    requires { i ≤ place_bound }
     ensures { result ≡ ends_in_er i sheet.now }
 {
-    code_at(sheet, i + 1) == LETTER_E
-        && code_at(sheet, i + 2) == LETTER_R
-        && code_at(sheet, i + 3) == 0
+    code_ahead(sheet, i, 1) == LETTER_E
+        && code_ahead(sheet, i, 2) == LETTER_R
+        && code_ahead(sheet, i, 3) == 0
 }
 
 // A hyphen before the letter at i.
 #[tactic(auto, unfolding(crate::specs::Middles::mark_at))]
 fn go_marki(at: Goto, sheet: &mut [u8]) -> Step
-    requires { at.i ≤ place_bound }
     ensures { joined result sheet.new ≡ mark_at at.i at.b sheet.old }
 {
-    if code_at(sheet, at.i + 1) == 0 {
+    if code_ahead(sheet, at.i, 1) == 0 {
         return None;
     }
     let c = code_at(sheet, at.i);
@@ -276,39 +245,10 @@ fn go_marki(at: Goto, sheet: &mut [u8]) -> Step
     Goto { c, ..at }.to(Label::Vowelscan, at.i)
 }
 
-// Vowels up to a consonant.
-#[tactic(auto, unfolding(crate::specs::Middles::pass_vowel))]
-fn go_vowel(at: Goto, sheet: &[u8]) -> Step
-    requires { at.i ≤ place_bound }
-    ensures { joined result sheet.now ≡ pass_vowel at.i at.c sheet.now }
-{
-    let b = code_at(sheet, at.i);
-    let (label, c) = if is_vowel(b) {
-        (Label::Checkc, b)
-    } else {
-        (Label::Phase4vc, at.c)
-    };
-    Goto { b, c, ..at }.to(label, at.i + 1)
-}
-
-// Consonants up to a vowel.
-#[tactic(auto, unfolding(crate::specs::Middles::scan_vowel))]
-fn go_vowelscan(at: Goto) -> Step
-    requires { at.i ≤ place_bound }
-    ensures { Joins result (scan_vowel at.i at.b at.c) }
-{
-    let label = if is_vowel(at.c) {
-        Label::Checkc
-    } else {
-        Label::Phase4c
-    };
-    at.to(label, at.i + 1)
-}
-
 // From a label to the next.
-#[tactic(auto, unfolding(crate::specs::Middles::onward))]
+#[tactic(auto, unfolding(crate::specs::Middles::onward, crate::specs::Middles::scan_vowel, crate::specs::Middles::pass_vowel))]
 fn go_onward(finale: usize, at: Goto, sheet: &mut [u8]) -> Step
-    requires { (1 ≤ at.i) × (at.i + 2 ≤ place_bound) }
+    requires { at.i < usize.MAX }
     ensures { joined result sheet.new ≡ onward finale at.label at.i at.b at.c sheet.old }
 {
     match at.label {
@@ -317,10 +257,19 @@ fn go_onward(finale: usize, at: Goto, sheet: &mut [u8]) -> Step
             let c = code_at(sheet, at.i);
             Goto { c, ..at }.to(Label::Vowelscan, at.i)
         }
-        Label::Vowelscan => go_vowelscan(at),
+        Label::Vowelscan if is_vowel(at.c) => at.to(Label::Checkc, at.i + 1),
+        Label::Vowelscan => at.to(Label::Phase4c, at.i + 1),
         Label::Checkc if at.c == 0 => None,
         Label::Checkc => at.to(Label::Phase4v, at.i),
-        Label::Phase4v => go_vowel(at, sheet),
+        Label::Phase4v => {
+            let b = code_at(sheet, at.i);
+            let (label, c) = if is_vowel(b) {
+                (Label::Checkc, b)
+            } else {
+                (Label::Phase4vc, at.c)
+            };
+            Goto { b, c, ..at }.to(label, at.i + 1)
+        }
         Label::Phase4vc => {
             let c = code_at(sheet, at.i);
             go_pair(finale, Goto { c, ..at }, sheet)

@@ -25,6 +25,14 @@ pub fn code_at(sheet: &[u8], i: usize) -> u8
     }
 }
 
+// The code k places on. A sum too large for a usize is outside the sheet as well.
+#[tactic(auto, unfolding(crate::specs::Sheet::mem))]
+pub fn code_ahead(sheet: &[u8], i: usize, k: usize) -> u8
+    ensures { result ≡ mem sheet.now (i + k) }
+{
+    code_at(sheet, i.saturating_add(k))
+}
+
 // Clears a place; outside the sheet nothing is done.
 #[tactic(auto, unfolding(crate::specs::Sheet::clear))]
 pub fn clear_at(sheet: &mut [u8], i: usize)

@@ -1,15 +1,12 @@
 use Rattle.std.specs.Prelude.{Ok}
 use Rattle.base.proofs.Grounds.{handed_on}
-use Rattle.machine1980.proofs.Order.{sizes, refused, found}
+use Rattle.machine1980.proofs.Order.{refused, found}
 use Rattle.machine1980.proofs.hyphenate_within.Goals as goal
 
 pub returns-in_err-judge_1980 : goal.returns-in_err-judge_1980
 returns-in_err-judge_1980 c =
     let k = c.args in
     refused k.budget k.word.now k.room.now c.judge_1980.ensures c.in_err-judge_1980.was (handed_on _ c.from_residual.ensures.1)
-
-pub find_breaks-requires : goal.find_breaks-requires
-find_breaks-requires c = sizes _ _ c.judge_1980.ensures c.in_ok-judge_1980.was
 
 pub returns : goal.returns
 returns c =
