@@ -11,8 +11,8 @@ use Rattle.tables1980.proofs.Targets.{prefix_rows}
 use Rattle.prefix1980.specs.Prefixes.{decode}
 use Rattle.prefix1980.specs.declared.Instruction.{Instruction}
 use Rattle.prefix1980.specs.declared.Instruction.TheVariants.{Scan, Repeat, Mark, Table, Fail, Vow, Cons, Confusion}
-use Rattle.tables1980.proofs.Table.{every}
-use Rattle.tables1980.proofs.Heights.{goes, goes_both, and_T, run_row, row_right, letter_right}
+use Rattle.tables1980.proofs.Table.{and_T, every}
+use Rattle.tables1980.proofs.Heights.{goes, goes_both, run_row, row_right, letter_right}
 use Rattle.tables1980.proofs.Heights as runs
 
 pub heights : List ℕ

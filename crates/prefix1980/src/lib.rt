@@ -171,6 +171,7 @@ impl Machine for Phase3 {
 
     ghost step_gives = { λ _ at sheet. step_gives at sheet };
 
+    #[tactic(auto, using(crate::proofs::Going::parts, tables1980::proofs::Readers::prefix_word))]
     fn step(&self, at: Row, sheet: &mut [u8]) -> Turn {
         let x = Instruction::from(word_at(prefix_table(), at.pc));
         interpret(at, sheet, x)

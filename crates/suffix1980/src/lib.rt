@@ -237,6 +237,7 @@ impl Machine for Phase2 {
 
     ghost step_gives = { λ m at sheet. step_gives m.n at sheet };
 
+    #[tactic(auto, using(crate::proofs::Going::parts, tables1980::proofs::Readers::suffix_word))]
     fn step(&self, at: Row, sheet: &mut [u8]) -> Turn {
         let x = Instruction::from(word_at(suffix_table(), at.pc));
         interpret(self.n, at, sheet, x)
@@ -245,6 +246,7 @@ impl Machine for Phase2 {
 
 // Removes the suffixes of a word of n letters, each word fetched taking one instruction of the budget: None where one more instruction is
 // needed than there is budget for; else it goes on with finale.
+#[tactic(auto, using(crate::proofs::Going::may_run))]
 pub fn remove_suffixes(budget: usize, n: usize, sheet: &mut [u8]) -> Option<Stopped<usize>>
     requires { (short_word1980 < n) × (n ≤ word_limit1980) × Sheet n sheet.old }
     ensures answer { told result sheet.new ≡ phase2 budget n sheet.old }

@@ -9,7 +9,7 @@ use borrow.Author.Tests.{ltb-true, ltb-false, lt-ltb, le-leb}
 use lib.Dec.{T, leb, ltb, eqb, leb→le, ltb→lt, eqb→eq}
 use lib.ListN.{length, get_or, get_or-eq_default}
 use Rattle.base.proofs.Lists.{never}
-use Rattle.tables1980.proofs.Table.{every, at}
+use Rattle.tables1980.proofs.Table.{and_T, every, at}
 
 -- Row x may follow row k, with `more` letters matched on the way.
 pub record Goes (heights credits : List ℕ) (k x more : ℕ) : Type 0 where
@@ -22,10 +22,6 @@ goes heights credits k x more =
     ltb 0 (get_or heights x 0) && (ltb (get_or heights x 0) (get_or heights k 0) && leb (get_or credits x 0) (get_or credits k 0 + more))
 
 -- a rule that passed its test
-pub and_T : (a b : Bool) → T (a && b) → T a × T b
-and_T true b t = (tt, t)
-and_T false b t = absurd t
-
 cond_true : (test a : Bool) → T (cond test a true) → test ≡ true → T a
 cond_true true a t e = t
 cond_true false a t e = never e

@@ -301,6 +301,7 @@ pub fn word_at(words: &[u64], row: usize) -> u64
 }
 
 // The mask of the vowels.
+#[tactic(auto, unfolding(crate::specs::Suffix::suffix, crate::specs::Suffix::suffix_words))]
 pub fn vowel_word() -> u64
     ensures { result ≡ suffix 0 }
 {

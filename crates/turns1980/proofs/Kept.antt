@@ -14,15 +14,14 @@ Stood Stands (Some stopped) sheet = Stands (Break stopped.next) sheet
 module _ {R E : Type 0} {can : R → List ℕ → Type 0} {step : R → List ℕ → Left (ControlFlow E R)} {Stands : ControlFlow E R → List ℕ → Type 0} (k : Kept can step Stands) where
   pub runs : (budget : ℕ) (at : ControlFlow E R) (sheet : List ℕ) → Stands at sheet → Runs can step budget at sheet
   unfolding Runs
-  runs zero at sheet s = tt
-  runs (suc budget) (Break e) sheet s = tt
+  runs budget (Break e) sheet s = tt
+  runs zero (Continue r) sheet s = tt
   runs (suc budget) (Continue r) sheet s = (k.allows r sheet s, runs budget (step r sheet).0 (step r sheet).1 (k.keeps r sheet s))
 
   stops : (budget : ℕ) (at : ControlFlow E R) (sheet : List ℕ) → Stands at sheet → Stood Stands (turns step budget at sheet).0 (turns step budget at sheet).1
   unfolding turns
-  stops zero (Break e) sheet s = s
+  stops budget (Break e) sheet s = s
   stops zero (Continue r) sheet s = tt
-  stops (suc budget) (Break e) sheet s = s
   stops (suc budget) (Continue r) sheet s = stops budget (step r sheet).0 (step r sheet).1 (k.keeps r sheet s)
 
   pub stood : (budget : ℕ) (at : ControlFlow E R) (sheet : List ℕ) → Stands at sheet → {r : Option (Stopped E)} {after : List ℕ} → (r, after) ≡ turns step budget at sheet → Stood Stands r after

@@ -1,28 +1,17 @@
 -- One turn of a machine.
-use Rattle.std.proofs.Common.{ℕ, zero, suc, List, ◌≡◌, refl, sym, ◌∙◌, ap, subst, Some, None, ControlFlow, Continue, Break}
+use Rattle.std.proofs.Common.{ℕ, suc, List, ◌≡◌, sym, ◌∙◌, ap, subst, None, ControlFlow, Continue}
 use Rattle.turns1980.specs.Turns.{Left, turns, Runs}
 
-module _ {R E : Type 0} (step : R → List ℕ → Left (ControlFlow E R)) where
-  pub done : (more : ℕ) (e : E) (after : List ℕ) → turns step more (Break e) after ≡ (Some (record { left = more; next = e }), after)
+module _ {R E : Type 0} (step : R → List ℕ → Left (ControlFlow E R)) {left : ℕ} (r : R) (sheet : List ℕ) where
+  pub out : left ≡ 0 → turns step left (Continue r) sheet ≡ (None, sheet)
   unfolding turns
-  done zero e after = refl
-  done (suc more) e after = refl
+  out h = ap (λ k. turns step k (Continue r) sheet) h
 
-  module _ {left : ℕ} (r : R) (sheet : List ℕ) where
-    pub out : left ≡ 0 → turns step left (Continue r) sheet ≡ (None, sheet)
+  module _ {more : ℕ} (less : left ≡ suc more) {at : ControlFlow E R} {after : List ℕ} (p : (at, after) ≡ step r sheet) where
+    pub turned : turns step left (Continue r) sheet ≡ turns step more at after
     unfolding turns
-    out h = ap (λ k. turns step k (Continue r) sheet) h
+    turned = ap (λ k. turns step k (Continue r) sheet) less ∙ sym (ap (λ (x : Left (ControlFlow E R)). turns step more x.0 x.1) p)
 
-    module _ {more : ℕ} (less : left ≡ suc more) where
-      pub allowed : (can : R → List ℕ → Type 0) → Runs can step left (Continue r) sheet → can r sheet
-      unfolding Runs
-      allowed can f = (subst (λ k. Runs can step k (Continue r) sheet) less f).0
-
-      module _ {at : ControlFlow E R} {after : List ℕ} (p : (at, after) ≡ step r sheet) where
-        pub turned : turns step left (Continue r) sheet ≡ turns step more at after
-        unfolding turns
-        turned = ap (λ k. turns step k (Continue r) sheet) less ∙ sym (ap (λ (x : Left (ControlFlow E R)). turns step more x.0 x.1) p)
-
-        pub still : (can : R → List ℕ → Type 0) → Runs can step left (Continue r) sheet → Runs can step more at after
-        unfolding Runs
-        still can f = subst (λ (x : Left (ControlFlow E R)). Runs can step more x.0 x.1) (sym p) (subst (λ k. Runs can step k (Continue r) sheet) less f).1
+    pub still : (can : R → List ℕ → Type 0) → Runs can step left (Continue r) sheet → Runs can step more at after
+    unfolding Runs
+    still can f = subst (λ (x : Left (ControlFlow E R)). Runs can step more x.0 x.1) (sym p) (subst (λ k. Runs can step k (Continue r) sheet) less f).1

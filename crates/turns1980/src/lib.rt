@@ -28,6 +28,7 @@ pub trait Machine {
 
 // Runs a machine from a row on, each turn taking one instruction of the budget: None where one more instruction is needed than there is
 // budget for.
+#[tactic(auto, unfolding(crate::specs::Turns::turns, crate::specs::Turns::Runs), using(crate::proofs::Laws::turned, crate::proofs::Laws::still))]
 pub fn run<M: Machine>(
     machine: &M,
     budget: usize,
