@@ -100,9 +100,6 @@ line_letter_symbol b e = go (small b) refl (eqb b apostrophe) refl e
 pub end_bad : {good : Bool} (e : ℕ) → good ≡ false → None ≡ end_if good e
 end_bad e g = rw g
 
-pub end_good : {good : Bool} {i e : ℕ} → good ≡ true → i ≡ e → Some i ≡ end_if good e
-end_good g p = rw (g, p)
-
 pub end_told : (good : Bool) (e : ℕ) {z : Bool} {r : Option ℕ} → r ≡ then_some z e → good ≡ z → r ≡ end_if good e
 end_told true e p q = rw (← q) at p
 end_told false e p q = rw (← q) at p

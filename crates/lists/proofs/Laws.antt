@@ -4,13 +4,12 @@ use mathlib.Core.Bool.{true, false}
 use mathlib.Core.List.{List}
 use mathlib.Core.Path.{◌≡◌, refl, ◌∙◌, ap}
 use native.Mathlib.Omega.{arith}
-use borrow.Author.Tests.{lt-ltb, le-ltb}
 use lib.ListN.{length, take, drop, drop_of_length-le}
 use Rattle.base.specs.Limits.{pattern_text, exception_text, customer_list, house_list}
 use Rattle.base.specs.Grounds.{Check}
 use Rattle.std.specs.Prelude.{Ok, Err, MatchResult, IsErrAnd}
 use Rattle.base.specs.declared.Ground.{Ground}
-use Rattle.base.specs.declared.Ground.TheVariants.{TextLong, BadPattern, BadException}
+use Rattle.base.specs.declared.Ground.TheVariants.{BadPattern, BadException}
 use Rattle.words.specs.Symbols.{symbols_of}
 use Rattle.std.proofs.lemmas.Result.{err_from_is_err_and}
 use Rattle.lines.specs.Lines.{cut, line_length, first_line, good_pattern, good_exception}
@@ -66,14 +65,6 @@ module _ (form : Form) (w : List ℕ) (at : ℕ) {r : Option ℕ} (p : r ≡ end
       line_good b =
           let s : at + length (take (e - at) (drop at w)) ≡ e = omega (arith, line_size w at e h (found_end q), line_starts w at e h (found_end q)) in
           rw (cut_line w at e h (found_end q), found_good q, b, s)
-
-pub size_over : (limit : ℕ) (w : List ℕ) → limit < length w → Err TextLong ≡ judge_size limit w
-unfolding judge_size
-size_over limit w h = rw (lt-ltb limit (length w) h)
-
-pub size_in_lem : (limit : ℕ) (w : List ℕ) → length w ≤ limit → (Ok tt) ≡ judge_size limit w
-unfolding judge_size
-size_in_lem limit w h = rw (le-ltb limit (length w) h)
 
 -- the judgements in order
 pub patterns_size : (w : List ℕ) {s : Check} {g : Ground} → s ≡ judge_size pattern_text w → s ≡ Err g → Err g ≡ judge_patterns w

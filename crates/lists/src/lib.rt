@@ -18,6 +18,7 @@ pub enum Form {
 }
 
 // Where the line that begins at a place ends, if it is good as it stands.
+#[tactic(auto, using(crate::proofs::Laws::pattern_form_lem, crate::proofs::Laws::exception_form_lem))]
 fn good_end(form: Form, text: &[u8], at: usize) -> Option<usize>
     ensures { result ≡ end_if (good_line form (first_line (drop at text.now))) (at + line_length (drop at text.now)) }
 {
@@ -33,7 +34,7 @@ pub fn judge_lines(form: Form, text: &[u8]) -> Result<(), usize>
 {
     let mut above = 0;
     let mut at = 0;
-    // Where the next line begins is found by judging this one; nothing is counted.
+    // Judging a line finds where the next begins; an iterator over lines would read each byte once more to find the same.
     while at < text.len() {
         let found = good_end(form, text, at);
         let Some(end) = found else {
@@ -48,6 +49,7 @@ pub fn judge_lines(form: Form, text: &[u8]) -> Result<(), usize>
     Ok(())
 }
 
+#[tactic(auto, unfolding(crate::specs::Lists::size_grounds, base::specs::Grounds::says, base::specs::Grounds::first_of))]
 pub fn judge_size(limit: usize, text: &[u8]) -> Result<(), Ground>
     ensures { says result ≡ first_of (Finds []) (size_grounds limit text.now) }
 {
@@ -57,7 +59,8 @@ pub fn judge_size(limit: usize, text: &[u8]) -> Result<(), Ground>
     Ok(())
 }
 
-// A pattern text: 8, then 7.
+// A pattern text: 8, then 7. No function of size and lines for both forms, with the ground as a closure: `judge_lists` asks the sizes of two
+// lists before the lines of either, so that it would replace no call.
 pub fn judge_patterns(text: &[u8]) -> Result<(), Ground>
     ensures { says result ≡ first_of (Finds []) (pattern_grounds text.now) }
 {

@@ -29,10 +29,6 @@ module _ (w : List ℕ) (i : ℕ) (l : List ℕ) (j : ℕ) {y : ℕ} (k : j < le
   unfolding same_from
   same_skip e = rw (cons_at l j k, symbols_skip (get_or l j 0) (drop (j + 1) l) (eq-eqb (symbol_of (get_or l j 0)) 0 (sym q ∙ e)))
 
-  pub same_short : (y ≡ 0 → ⊥) → length w ≤ i → same_from w i l j ≡ false
-  unfolding same_from same_list word_symbols symbols_of
-  same_short e h = rw (drop_of_length-le w h, cons_at l j k, ← q, ne_eqb y 0 e)
-
   module _ (e : y ≡ 0 → ⊥) {b x : ℕ} (h : i < length w) (m : b ≡ lower (get_or w i 0)) (p : x ≡ symbol_of b) where
     pub same_differs : (x ≡ y → ⊥) → same_from w i l j ≡ false
     unfolding same_from same_list word_symbols symbols_of

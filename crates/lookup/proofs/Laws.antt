@@ -5,7 +5,7 @@ use mathlib.Core.List.{List, [], ◌∷◌}
 use mathlib.Core.Path.{◌≡◌, refl, ap}
 use native.Mathlib.Omega.{arith}
 use lib.Dec.{eqb}
-use lib.ListN.{length, take, drop, drop_of_length-le}
+use lib.ListN.{length}
 use Rattle.base.specs.Limits.{word_limit}
 use Rattle.base.specs.Grounds.{Check}
 use Rattle.std.specs.Prelude.{Ok, Err, Option, Some, None}
@@ -13,8 +13,7 @@ use Rattle.base.specs.declared.Ground.{Ground}
 use Rattle.base.proofs.Lists.{clash}
 use Rattle.words.specs.Symbols.{line_feed, symbols_of}
 use Rattle.words.specs.Words.{judge_word, word_symbols}
-use Rattle.lines.specs.Lines.{cut, glue, line_length}
-use Rattle.lines.proofs.Laws.{cut_line, line_size, line_starts}
+use Rattle.lines.specs.Lines.{cut, glue}
 use Rattle.lists.specs.Lists.{judge_lists}
 use Rattle.base.specs.Tests.{same_list}
 use Rattle.lookup.specs.Find.{find_line, find, own_first, find_either, span}
@@ -24,26 +23,23 @@ use Rattle.lookup.specs.declared.Located.{Located}
 use Rattle.lookup.specs.declared.Located.TheVariants.{Customer, House, Nowhere}
 
 -- the loop over the lines
-pub find_start : (w t : List ℕ) → find w t ≡ find_line (word_symbols w) 0 (cut (drop 0 t))
+pub find_start : (w t : List ℕ) {rest : List ℕ} → rest ≡ t → find w t ≡ find_line (word_symbols w) 0 (cut rest)
 unfolding find
-find_start w t = refl
+find_start w t e = rw e
 
-pub find_end : (key t : List ℕ) (at : ℕ) → length t ≤ at → find_line key at (cut (drop at t)) ≡ None
+pub find_end : (key rest : List ℕ) (start : ℕ) → length rest ≡ 0 → find_line key start (cut rest) ≡ None
 unfolding find_line cut
-find_end key t at h = rw (drop_of_length-le t h)
+find_end key [] start h = refl
+find_end key (b ∷ t) start h = absurd (omega arith)
 
-module _ (key t : List ℕ) (at e : ℕ) (h : at < length t) (q : e ≡ at + line_length (drop at t)) where
-  pub find_here : same_list key (symbols_of (take (e - at) (drop at t))) ≡ true → find_line key at (cut (drop at t)) ≡ span at (e - 1)
+module _ (key text line rest : List ℕ) (start : ℕ) (e : cut text ≡ line ∷ cut rest) where
+  pub find_here : 0 < length line → same_list key (symbols_of line) ≡ true → find_line key start (cut text) ≡ span start (start + length line - 1)
   unfolding find_line
-  find_here s =
-      let n : at + (length (take (e - at) (drop at t)) - 1) ≡ e - 1 = omega (arith, line_size t at e h q, line_starts t at e h q) in
-      rw (cut_line t at e h q, s, n)
+  find_here h s = let n : start + (length line - 1) ≡ start + length line - 1 = omega arith in rw (e, s, n)
 
-  pub find_on : same_list key (symbols_of (take (e - at) (drop at t))) ≡ false → find_line key at (cut (drop at t)) ≡ find_line key e (cut (drop e t))
+  pub find_on : same_list key (symbols_of line) ≡ false → find_line key start (cut text) ≡ find_line key (start + length line) (cut rest)
   unfolding find_line
-  find_on s =
-      let n : at + length (take (e - at) (drop at t)) ≡ e = omega (arith, line_size t at e h q, line_starts t at e h q) in
-      rw (cut_line t at e h q, s, n)
+  find_on s = rw (e, s)
 
 -- the first refusal, then the lists in order
 pub lookup_word : (w c h : List ℕ) {s : Check} {g : Ground} → s ≡ judge_word word_limit w → s ≡ Err g → Err g ≡ judge_lookup w c h

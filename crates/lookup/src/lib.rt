@@ -1,7 +1,7 @@
 // The lookup of a word's exception line.
 #![tactic(auto)]
 
-ghost use Rattle.std.specs.Prelude.{◌+◌, ◌*◌, not, ◌&&◌, cond, [], ◌≡◌, eqb, leb, length, get_or, drop};
+ghost use Rattle.std.specs.Prelude.{◌+◌, ◌*◌, ◌≤◌, not, ◌&&◌, cond, [], ◌≡◌, eqb, leb, length, get_or, drop};
 ghost use Rattle.std.specs.Int.Bits.{bit_or};
 ghost use Rattle.base.specs.Grounds.{Finds, says, first_of};
 ghost use Rattle.words.specs.Symbols.{small, lower, symbol_of, symbols_of};
@@ -84,34 +84,27 @@ fn letters_in(b: u8) -> usize
 
 // Has the line, from a place on, the symbols of the word from its place on? This serves every line.
 fn same_symbols(word: &[u8], line: &[u8], from: usize, at: usize) -> bool
+    requires { (from ≤ length word.now) × (at ≤ length line.now) }
     ensures { result ≡ same_list (word_symbols (drop from word.now)) (symbols_of (drop at line.now)) }
 {
-    let mut i = from;
-    let mut j = at;
-    // Word and line go on at their own pace, and both begin at a place: an iterator for each would be put on by hand too.
-    while j < line.len() {
-        let y = words::symbol_of(line[j]);
-        j += 1;
-        if y != 0 {
-            if word.len() <= i {
-                return false;
-            }
-            if words::symbol_of(words::lower_of(word[i])) != y {
-                return false;
-            }
-            i += 1;
-        }
-    }
-    word.len() <= i
+    let letters = word[from..]
+        .iter()
+        .map(|b| words::symbol_of(words::lower_of(*b)));
+    let symbols = line[at..]
+        .iter()
+        .map(|b| words::symbol_of(*b))
+        .filter(|s| *s != 0);
+    letters.cmp(symbols).is_eq()
 }
 
 // The same from one place of both on, and quicker while the line has letters and hyphens and the word isn't used up.
 fn same_letters(word: &[u8], line: &[u8], start: usize) -> bool
+    requires { (start ≤ length word.now) × (start ≤ length line.now) }
     ensures { result ≡ same_list (word_symbols (drop start word.now)) (symbols_of (drop start line.now)) }
 {
     let mut i = start;
     let mut j = start;
-    // The same; both places are handed on where this stops.
+    // Word and line go on at their own pace, with no branch at a hyphen, and where this stops both places are handed on: no iterator does so.
     while i < word.len() {
         if line.len() <= j {
             return false;
@@ -175,17 +168,16 @@ pub fn is_line_of(word: &[u8], line: &[u8]) -> bool
 pub fn find_line(word: &[u8], text: &[u8]) -> Option<Span>
     ensures { result ≡ find word.now text.now }
 {
-    let mut at = 0;
-    // `lines::line_end` says where the next line begins, and the place is part of the answer; nothing is counted.
-    while at < text.len() {
-        let end = lines::line_end(text, at);
-        if is_line_of(word, &text[at..end]) {
+    let mut start = 0;
+    for line in text.split_inclusive(|b| *b == words::LINE_FEED) {
+        let end = start + line.len();
+        if is_line_of(word, line) {
             return Some(Span {
-                start: at,
+                start,
                 end: end - 1,
             });
         }
-        at = end;
+        start = end;
     }
     None
 }

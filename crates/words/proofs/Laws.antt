@@ -5,7 +5,7 @@ use mathlib.Core.List.{List, [], ◌∷◌, ◌++◌}
 use mathlib.Core.Path.{◌≡◌, refl, sym, ◌∙◌, ap}
 use native.Mathlib.Numerals.{add-one}
 use native.Mathlib.Omega.{arith}
-use borrow.Author.Tests.{lt-leb, le-leb, lt-ltb, le-ltb, eq-eqb, ne_eqb, leb-true, ltb-false, eqb-false, not-true, not-false}
+use borrow.Author.Tests.{lt-leb, le-leb, le-ltb, eq-eqb, ne_eqb, leb-true, ltb-false, eqb-false, not-true, not-false}
 use lib.Dec.{leb, ltb, eqb}
 use lib.ListN.{length, get_or, drop, length-append, drop_of_length-le}
 use Rattle.base.specs.Limits.{edge, apostrophe_symbol}
@@ -16,7 +16,7 @@ use Rattle.base.specs.declared.Ground.TheVariants.{WordEmpty, WordLong, NotLette
 use Rattle.base.proofs.Grounds.{both_fine, not_refused}
 use Rattle.base.proofs.Lists.{clash, cons_at, never}
 use Rattle.words.specs.Symbols.{small, capital, letter, lower, digit, symbol_of, symbols_of, dot, apostrophe}
-use Rattle.words.specs.Words.{Rule, letters_alone, starts_letter, is_between, with_apostrophes, all_fit, judge_length, judge_by, judge_word, judge_letters, letter_before, word_byte, word_symbols, row_of}
+use Rattle.words.specs.Words.{Rule, Extends, letters_alone, starts_letter, is_between, with_apostrophes, all_fit, judge_length, judge_by, judge_word, judge_letters, letter_before, word_byte, word_symbols, row_of}
 
 -- a range of bytes, from its lower end on
 pub from_range : (lo hi b : ℕ) → lo ≤ b → leb b hi ≡ (leb lo b && leb b hi)
@@ -74,15 +74,7 @@ pub symbol_none : (b : ℕ) → small b ≡ false → (b ≡ dot → ⊥) → (b
 unfolding symbol_of
 symbol_none b e d q = rw (e, ne_eqb b dot d, ne_eqb b apostrophe q)
 
--- the judgement of a word's length, by the way the code goes
-pub length_none : (limit size : ℕ) → size ≡ 0 → Err WordEmpty ≡ judge_length limit size
-unfolding judge_length
-length_none limit size h = rw (eq-eqb size 0 h)
-
-pub length_over : (limit size : ℕ) → (size ≡ 0 → ⊥) → limit < size → Err WordLong ≡ judge_length limit size
-unfolding judge_length
-length_over limit size h k = rw (ne_eqb size 0 h, lt-ltb limit size k)
-
+-- a length that is judged fine
 pub length_fine : (limit size : ℕ) → (size ≡ 0 → ⊥) → size ≤ limit → (Ok tt) ≡ judge_length limit size
 unfolding judge_length
 length_fine limit size h k = rw (ne_eqb size 0 h, le-ltb limit size k)
@@ -110,26 +102,7 @@ pub fit_end : (rule : Rule) (after : Bool) (w : List ℕ) (i : ℕ) → length w
 unfolding all_fit
 fit_end rule after w i h = rw (drop_of_length-le w h)
 
--- letters alone
-letters_any : (w : List ℕ) (at : ℕ) (a b : Bool) → all_fit letters_alone at a w ≡ all_fit letters_alone at b w
-unfolding all_fit letters_alone
-letters_any [] at a b = refl
-letters_any (x ∷ w) at a b = refl
-
-module _ (w : List ℕ) (i : ℕ) (h : i < length w) where
-  pub letters_pass : letter (get_or w i 0) ≡ true → all_fit letters_alone i false (drop i w) ≡ all_fit letters_alone (i + 1) false (drop (i + 1) w)
-  unfolding letters_alone
-  letters_pass e = fit_on letters_alone false w i h e ∙ letters_any (drop (i + 1) w) (i + 1) (letter (get_or w i 0)) false
-
-  pub letters_stop : letter (get_or w i 0) ≡ false → all_fit letters_alone i false (drop i w) ≡ Err (NotLetter i)
-  unfolding letters_alone
-  letters_stop e = fit_stop letters_alone false w i h e
-
--- letters, and apostrophes between two of them
-before_at : (w : List ℕ) (i : ℕ) → letter_before w (i + 1) ≡ letter (get_or w i 0)
-unfolding letter_before
-before_at w i = rw add-one
-
+-- an apostrophe between two letters
 before_not : (w : List ℕ) (i : ℕ) → i ≡ 0 → letter_before w i ≡ false
 unfolding letter_before
 before_not w i z = rw z
@@ -163,28 +136,41 @@ module _ (w : List ℕ) (i : ℕ) where
         unfolding is_between starts_letter
         between_inside h = rw (eq-eqb (get_or w i 0) apostrophe q, before_in w i z ∙ sym l ∙ not-false r n, cons_at w (i + 1) h)
 
-pub word_start : (w : List ℕ) → all_fit with_apostrophes 0 false w ≡ all_fit with_apostrophes 0 (letter_before w 0) (drop 0 w)
+-- the judgement byte by byte, by a test of the bytes that are no letters
+pub fit_start : (rule : Rule) (w : List ℕ) → all_fit rule 0 false w ≡ all_fit rule 0 (letter_before w 0) (drop 0 w)
 unfolding letter_before
-word_start w = refl
+fit_start rule w = refl
 
-module _ (w : List ℕ) (i : ℕ) (h : i < length w) where
-  word_on : with_apostrophes (letter_before w i) (get_or w i 0) (drop (i + 1) w) ≡ true
-      → all_fit with_apostrophes i (letter_before w i) (drop i w) ≡ all_fit with_apostrophes (i + 1) (letter_before w (i + 1)) (drop (i + 1) w)
-  word_on e =
-      fit_on with_apostrophes (letter_before w i) w i h e ∙ ap (λ (z : Bool). all_fit with_apostrophes (i + 1) z (drop (i + 1) w)) (sym (before_at w i))
+before_at : (w : List ℕ) (i : ℕ) → letter_before w (i + 1) ≡ letter (get_or w i 0)
+unfolding letter_before
+before_at w i = rw add-one
 
-  pub word_letter : letter (get_or w i 0) ≡ true → all_fit with_apostrophes i (letter_before w i) (drop i w) ≡ all_fit with_apostrophes (i + 1) (letter_before w (i + 1)) (drop (i + 1) w)
-  unfolding with_apostrophes
-  word_letter e = word_on (rw e)
+module _ (rule : Rule) (w : List ℕ) {test : ℕ → Bool → Type 0} (x : Extends rule w test) (i : ℕ) (h : i < length w) where
+  fit_next : rule (letter_before w i) (get_or w i 0) (drop (i + 1) w) ≡ true → all_fit rule i (letter_before w i) (drop i w) ≡ all_fit rule (i + 1) (letter_before w (i + 1)) (drop (i + 1) w)
+  fit_next e = fit_on rule (letter_before w i) w i h e ∙ ap (λ (z : Bool). all_fit rule (i + 1) z (drop (i + 1) w)) (sym (before_at w i))
 
-  module _ (e : letter (get_or w i 0) ≡ false) {r : Bool} (p : r ≡ is_between (letter_before w i) (get_or w i 0) (drop (i + 1) w)) where
-    pub word_between : not r ≡ false → all_fit with_apostrophes i (letter_before w i) (drop i w) ≡ all_fit with_apostrophes (i + 1) (letter_before w (i + 1)) (drop (i + 1) w)
-    unfolding with_apostrophes
-    word_between q = word_on (rw (e, sym p ∙ not-false r q))
+  pub fit_letter : letter (get_or w i 0) ≡ true → all_fit rule i (letter_before w i) (drop i w) ≡ all_fit rule (i + 1) (letter_before w (i + 1)) (drop (i + 1) w)
+  fit_letter e = fit_next (x.letters (letter_before w i) (get_or w i 0) (drop (i + 1) w) e)
 
-    pub word_stop : not r ≡ true → all_fit with_apostrophes i (letter_before w i) (drop i w) ≡ Err (NotLetter i)
-    unfolding with_apostrophes
-    word_stop q = fit_stop with_apostrophes (letter_before w i) w i h (rw (e, sym p ∙ not-true r q))
+  module _ (e : letter (get_or w i 0) ≡ false) {r : Bool} (p : test i r) where
+    told : r ≡ rule (letter_before w i) (get_or w i 0) (drop (i + 1) w)
+    told = rw add-one (x.others i r h e p)
+
+    pub fit_other : r ≡ true → all_fit rule i (letter_before w i) (drop i w) ≡ all_fit rule (i + 1) (letter_before w (i + 1)) (drop (i + 1) w)
+    fit_other q = fit_next (sym told ∙ q)
+
+    pub fit_refused : r ≡ false → all_fit rule i (letter_before w i) (drop i w) ≡ Err (NotLetter i)
+    fit_refused q = fit_stop rule (letter_before w i) w i h (sym told ∙ q)
+
+-- which tests make the two rules of letters
+pub letters_extend : (w : List ℕ) {test : ℕ → Bool → Type 0} → ((i : ℕ) (r : Bool) → i < length w → test i r → r ≡ false) → Extends letters_alone w test
+unfolding letters_alone
+letters_extend w says = record { letters = λ after b behind e. e; others = λ i r h e p. says i r h p ∙ sym e }
+
+pub between_extends : (w : List ℕ) {test : ℕ → Bool → Type 0} → ((i : ℕ) (r : Bool) → i < length w → test i r → r ≡ is_between (letter_before w i) (get_or w i 0) (drop (i + 1) w))
+    → Extends with_apostrophes w test
+unfolding with_apostrophes
+between_extends w says = record { letters = λ after b behind e. rw e; others = λ i r h e p. rw e (rw add-one at (says i r h p)) }
 
 -- what a judged word is: not empty, short, and each byte as its rule has it
 fits_each : (rule : Rule) (test : ℕ → Bool) → ((after : Bool) (b : ℕ) (t : List ℕ) → rule after b t ≡ true → test b ≡ true)

@@ -43,7 +43,7 @@ module _ (rule : Rule) where
       let z : 0 + leading rule false w ≡ leading rule false w = omega arith in
       record { same = fit_said_lem 0 false w ∙ ap (λ (n : ℕ). cond (ltb (leading rule false w) (length w)) (Refuses (placed 3 n)) (Finds [])) z }
 
-  judged_ordered : (limit : ℕ) (w : List ℕ) → Ordered (judge_by rule limit w) (grounds_by rule limit w)
+  pub judged_ordered : (limit : ℕ) (w : List ℕ) → Ordered (judge_by rule limit w) (grounds_by rule limit w)
   unfolding judge_by judge_length grounds_by
   judged_ordered limit w = ordered_first (ordered_first (ordered_if (eqb (length w) 0) WordEmpty) (ordered_if (ltb limit (length w)) WordLong)) (fit_ordered w)
 

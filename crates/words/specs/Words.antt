@@ -1,5 +1,5 @@
 -- Words: their judgement, their symbols, the row with its edges, and the inner gaps.
-use Rattle.std.specs.Prelude.{ℕ, zero, suc, ◌+◌, ◌-◌, ◌≤◌, Bool, true, false, cond, ◌&&◌, ◌||◌, List, [], ◌∷◌, ◌++◌, map, ◌⊎◌, ◌≡◌, leb, ltb, eqb, length, get_or, Ok, Err}
+use Rattle.std.specs.Prelude.{ℕ, zero, suc, ◌+◌, ◌-◌, ◌≤◌, ◌<◌, Bool, true, false, cond, ◌&&◌, ◌||◌, List, [], ◌∷◌, ◌++◌, map, ◌⊎◌, ◌≡◌, leb, ltb, eqb, length, get_or, drop, Ok, Err}
 use Rattle.base.specs.Limits.{edge}
 use Rattle.base.specs.Grounds.{Row, on, on_at, first, refuse_if, Check}
 use Rattle.base.specs.declared.Ground.TheVariants.{WordEmpty, WordLong, NotLetter}
@@ -53,6 +53,11 @@ all_fit rule at after (b ∷ t) = cond (rule after b t) (all_fit rule (at + 1) (
 unfoldable pub letter_before : List ℕ → ℕ → Bool
 letter_before w zero = false
 letter_before w (suc k) = letter (get_or w k 0)
+
+-- A test of a place of a word goes on where letters end: a rule has every letter, and of the other bytes those that the test says.
+pub record Extends (rule : Rule) (w : List ℕ) (test : ℕ → Bool → Type 0) : Type 0 where
+  pub letters : (after : Bool) (b : ℕ) (behind : List ℕ) → letter b ≡ true → rule after b behind ≡ true
+  pub others : (i : ℕ) (r : Bool) → i < length w → letter (get_or w i 0) ≡ false → test i r → r ≡ rule (letter_before w i) (get_or w i 0) (drop (suc i) w)
 
 -- grounds 2 and 4
 unfoldable pub judge_length : ℕ → ℕ → Check

@@ -1,11 +1,11 @@
 // Letters, symbols and the judgement of a word.
 #![tactic(auto)]
 
-ghost use Rattle.std.specs.Prelude.{◌≡◌, true, Ok, [], ◌+◌, ◌<◌, length, get_or, drop};
+ghost use Rattle.std.specs.Prelude.{ℕ, ◌≡◌, true, Ok, [], ◌+◌, ◌<◌, length, get_or, drop};
 ghost use Rattle.base.specs.Grounds.{Finds, says, first_of};
 ghost use Rattle.words.specs.Symbols.{small, capital, letter, lower, digit, symbol_of};
 ghost use Rattle.base.specs.Limits.{word_limit};
-ghost use Rattle.words.specs.Words.{judge_word, is_between, letter_before, word_grounds, letter_grounds, judge_length, word_byte};
+ghost use Rattle.words.specs.Words.{Rule, Extends, judge_word, is_between, letter_before, grounds_by, word_grounds, letter_grounds, judge_length, word_byte};
 
 use base::Ground;
 
@@ -62,7 +62,8 @@ pub fn lower_of(b: u8) -> u8
     b.to_ascii_lowercase()
 }
 
-// The symbol that a byte of a text stands for, 0 for none.
+// The symbol that a byte of a text stands for, 0 for none and no Option: the definition has 0, and every list of symbols is filtered by it.
+#[tactic(auto, unfolding(crate::specs::Symbols::symbol_of, crate::specs::Symbols::small))]
 pub fn symbol_of(b: u8) -> u8
     ensures { result ≡ symbol_of b }
 {
@@ -79,6 +80,7 @@ pub fn symbol_of(b: u8) -> u8
 }
 
 // A letter's symbol, whatever its case: both cases have the same last five bits, and these number the alphabet.
+#[tactic(auto, using(crate::proofs::Theorems::letter_bits))]
 pub fn letter_symbol(b: u8) -> u8
     requires { letter b ≡ true }
     ensures { result ≡ symbol_of (lower b) }
@@ -87,6 +89,7 @@ pub fn letter_symbol(b: u8) -> u8
 }
 
 // The symbol of a byte of a judged word.
+#[tactic(auto, using(crate::proofs::Laws::byte_letter, crate::proofs::Laws::apostrophe_lower))]
 pub fn word_symbol(b: u8) -> u8
     requires { word_byte b ≡ true }
     ensures { result ≡ symbol_of (lower b) }
@@ -98,6 +101,7 @@ pub fn word_symbol(b: u8) -> u8
 }
 
 // Grounds 2 and 4 of a word of this size and at most limit bytes.
+#[tactic(auto, unfolding(crate::specs::Words::judge_length))]
 fn judge_length(size: usize, limit: usize) -> Result<(), Ground>
     ensures { result ≡ judge_length limit size }
 {
@@ -110,20 +114,32 @@ fn judge_length(size: usize, limit: usize) -> Result<(), Ground>
     Ok(())
 }
 
-// Grounds 2, 4 and 3 of a word that may have letters alone, as the machine of 1980 judges it.
-pub fn judge_letters(word: &[u8], limit: usize) -> Result<(), Ground>
-    ensures { says result ≡ first_of (Finds []) (letter_grounds limit word.now) }
+// Grounds 2, 4 and 3 of a word of at most limit bytes. A byte that is no letter is good where `fits` says so of its place; so letters pass
+// with one test each.
+fn judge_bytes<F: Fn(usize) -> bool>(word: &[u8], limit: usize, fits: F) -> Result<(), Ground>
+    requires { (i : ℕ) → i < length word.now → F.pre fits i }
+    ensures { (rule : Rule) → Extends rule word.now (λ i r. F.post fits i r) → says result ≡ first_of (Finds []) (grounds_by rule limit word.now) }
 {
     judge_length(word.len(), limit)?;
     for (i, b) in word.iter().enumerate() {
-        if !is_letter(*b) {
-            return Err(Ground::NotLetter(i)); // the first such byte
+        if is_letter(*b) {
+            continue;
+        }
+        if !fits(i) {
+            return Err(Ground::NotLetter(i)); // at its own place
         }
     }
     Ok(())
 }
 
-// Is the byte at i an apostrophe between two letters? Both neighbours are looked at only here, so that letters pass with one test each.
+// The judgement of a word that may have letters alone, as the machine of 1980 judges it.
+pub fn judge_letters(word: &[u8], limit: usize) -> Result<(), Ground>
+    ensures { says result ≡ first_of (Finds []) (letter_grounds limit word.now) }
+{
+    judge_bytes(word, limit, |_| false)
+}
+
+// Is the byte at i an apostrophe between two letters?
 fn is_between(word: &[u8], i: usize) -> bool
     requires { i < length word.now }
     ensures { result ≡ is_between (letter_before word.now i) (get_or word.now i 0) (drop (i + 1) word.now) }
@@ -143,18 +159,9 @@ fn is_between(word: &[u8], i: usize) -> bool
     is_letter(word[i + 1])
 }
 
-// Grounds 2, 4 and 3 of a word of at most limit bytes.
+// The judgement of a word that may have apostrophes between letters.
 pub fn judge_word(word: &[u8], limit: usize) -> Result<(), Ground>
     ensures { says result ≡ first_of (Finds []) (word_grounds limit word.now) }
 {
-    judge_length(word.len(), limit)?;
-    for (i, b) in word.iter().enumerate() {
-        if is_letter(*b) {
-            continue;
-        }
-        if !is_between(word, i) {
-            return Err(Ground::NotLetter(i)); // at its own place
-        }
-    }
-    Ok(())
+    judge_bytes(word, limit, |i| is_between(word, i))
 }

@@ -1,15 +1,15 @@
-use Rattle.std.proofs.Common.{rules, arith, ◌≡◌, ◌∙◌, refl}
-use Rattle.lines.proofs.Laws.{end_here, end_on, end_out}
+use Rattle.std.proofs.Common.{rules, tests, ◌≡◌, ◌+◌, length, drop, sym, ◌∙◌, ap}
+use Rattle.lines.specs.Lines.{line_length}
+use Rattle.lines.proofs.Splits.{first_split, past_split}
+use Rattle.lines.proofs.Symbols.{rest_whole}
 use Rattle.lines.proofs.line_end.Goals as goal
 
-pub loop-i-init : goal.loop-i-init
-loop-i-init c = (search rules, refl)
-
-pub returns-then-text-i-eq-LINE_FEED : goal.returns-then-text-i-eq-LINE_FEED
-returns-then-text-i-eq-LINE_FEED c = end_here _ _ _ c.loop-i.invariant.1 c.loop-i-test.true c.if-text-i-eq-LINE_FEED.true
-
-pub loop-i-preserved : goal.loop-i-preserved
-loop-i-preserved c = (search rules, end_on _ _ _ c.loop-i.invariant.1 c.loop-i-test.true c.if-text-i-eq-LINE_FEED.false)
+pub returns-in_default : goal.returns-in_default
+returns-in_default c = past_split _ _ c.in_default.ensures.lookup.0
 
 pub returns : goal.returns
-returns c = let e : c.max.result ≡ c.loop-i.i = omega arith in e ∙ end_out _ _ _ c.loop-i.invariant.1 c.loop-i-test.false
+returns c =
+    let s : c.split_inclusive.result.rest.now ≡ c.in-Some.rest.now = c.split_inclusive.ensures.rest in
+    let e : c.in-Some.rest.now ≡ drop c.args.at c.args.text.now = c.in-Some.ensures.lookup.0.2 ∙ rest_whole c.args.text.now c.args.at in
+    let u = first_split _ _ _ c.split_inclusive.result.rest.now _ _ c.next.ensures.steps (λ b r q k. search (rules, tests)) c.in-Some.rest (sym s) in
+    ap (λ k. c.args.at + k) (ap (λ b. length b.now) c.unwrap_or-line.ensures ∙ u ∙ ap line_length (s ∙ e))

@@ -37,3 +37,9 @@ returns c =
     ∙ sym
     (law.same_start _ 0 _ 0
     ∙ law.pair_agrees s.args.word.now s.args.line.now (sym c.has_pairs.ensures ∙ c.if-not-has_pairs.false) (sym c.meet_both.ensures ∙ c.if-not-meet_both.false))
+
+pub same_letters-requires-2 : goal.same_letters-requires-2
+same_letters-requires-2 c = (
+  omega (arith, law.word_has c.args.word.now c.args.line.now (sym c.has_pairs.ensures ∙ c.if-not-has_pairs.false) 1 (omega arith)),
+  omega (arith, law.line_has c.args.word.now c.args.line.now (sym c.has_pairs.ensures ∙ c.if-not-has_pairs.false) 1 (omega arith)),
+)
