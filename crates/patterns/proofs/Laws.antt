@@ -12,20 +12,14 @@ use Rattle.std.specs.Option.{option_map, unwrap_or}
 use Rattle.base.proofs.Lists.{cons_at, never}
 use Rattle.words.specs.Symbols.{small, digit, symbol_of, symbols_of}
 use Rattle.words.proofs.Laws.{small_not_digit, other_symbol, digit_not_dot, digit_not_apostrophe, symbols_skip, symbols_keep}
+use Rattle.lines.proofs.Symbols.{symbols_filtered}
 use Rattle.liang.specs.Patterns.{levels_from}
 use Rattle.patterns.specs.Common.{common}
 use Rattle.patterns.specs.Post.{Parts}
 
 -- a line's symbols, byte by byte
 pub symbols_chain : (l : List ℕ) → symbols_of l ≡ filter (λ s. not (eqb s 0)) (map symbol_of l)
-unfolding symbols_of
-symbols_chain [] = refl
-symbols_chain (b ∷ l) = go (eqb (symbol_of b) 0) (symbols_chain l)
-  where
-    go : (z : Bool) → symbols_of l ≡ filter (λ s. not (eqb s 0)) (map symbol_of l)
-        → cond z (symbols_of l) (symbol_of b ∷ symbols_of l) ≡ cond (not z) (symbol_of b ∷ filter (λ s. not (eqb s 0)) (map symbol_of l)) (filter (λ s. not (eqb s 0)) (map symbol_of l))
-    go true e = e
-    go false e = ap (λ (r : List ℕ). symbol_of b ∷ r) e
+symbols_chain l = sym (symbols_filtered l)
 
 -- and one of them by its number
 pub symbol_nth : (line : List ℕ) (number : ℕ) (r : Option ℕ) {s : ℕ} → option_map (λ x. x) r ≡ slice_get (filter (λ x. not (eqb x 0)) (map symbol_of line)) number → s ≡ unwrap_or r 0

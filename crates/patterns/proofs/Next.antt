@@ -6,11 +6,12 @@ use mathlib.Core.Path.{◌≡◌, refl, sym, ◌∙◌, ap}
 use native.Mathlib.Omega.{arith}
 use borrow.Author.Tests.{lt-leb, le-leb, eqb-true, eqb-false}
 use lib.Dec.{leb, eqb}
-use lib.ListN.{length, get_or, take, drop, set, length-set, length-drop, replicate, get_or-replicate}
-use lib.Seq.{take_all, get_or-set_same, get_or-set_other}
+use lib.ListN.{length, get_or, take, drop, set, length-set, replicate, get_or-replicate}
+use lib.Seq.{get_or-set_same, get_or-set_other}
 use Rattle.base.specs.Limits.{symbol_limit}
 use Rattle.words.specs.Symbols.{symbols_of}
 use Rattle.lines.specs.Lines.{cut}
+use Rattle.lines.proofs.Symbols.{rest_whole}
 use Rattle.liang.specs.Patterns.{Pattern, pattern_of}
 use Rattle.patterns.specs.Common.{common}
 use Rattle.patterns.specs.Next.{next_in, next_mask}
@@ -18,7 +19,7 @@ use Rattle.patterns.specs.Next.{next_in, next_mask}
 -- the marks of the part of a text from a place on
 pub next_from : (m : ℕ) (own mask text : List ℕ) (at : ℕ) (rest : List ℕ) → rest ≡ take (length text - at) (drop at text)
     → next_mask m own (map pattern_of (cut (drop at text))) mask ≡ next_mask m own (map pattern_of (cut rest)) mask
-next_from m own mask text at rest e = ap (λ (l : List ℕ). next_mask m own (map pattern_of (cut l)) mask) (sym (e ∙ take_all (length text - at) (drop at text) (omega (arith, length-drop at text))))
+next_from m own mask text at rest e = ap (λ (l : List ℕ). next_mask m own (map pattern_of (cut l)) mask) (sym (e ∙ rest_whole text at))
 
 -- how the list goes on, as marks, where its first line is taken off
 module _ (m : ℕ) (own mask text line rest : List ℕ) (q : cut text ≡ line ∷ cut rest) where

@@ -114,8 +114,8 @@ fn judge_length(size: usize, limit: usize) -> Result<(), Ground>
     Ok(())
 }
 
-// Grounds 2, 4 and 3 of a word of at most limit bytes, of which those that are no letters fit by a test of their place: so letters pass with
-// one test each.
+// Grounds 2, 4 and 3 of a word of at most limit bytes. A byte that is no letter is good where `fits` says so of its place; so letters pass
+// with one test each.
 fn judge_bytes<F: Fn(usize) -> bool>(word: &[u8], limit: usize, fits: F) -> Result<(), Ground>
     requires { (i : ℕ) → i < length word.now → F.pre fits i }
     ensures { (rule : Rule) → Extends rule word.now (λ i r. F.post fits i r) → says result ≡ first_of (Finds []) (grounds_by rule limit word.now) }
