@@ -5,6 +5,7 @@ use mathlib.Core.Path.{◌≡◌, refl, sym, ◌∙◌, ap}
 use native.Mathlib.Omega.{arith}
 use lib.ListN.{length, length-append}
 use lib.Seq.{length-sets}
+use Rattle.writing.specs.Put.{Put}
 use Rattle.writing.specs.Written.{Fits, Writes}
 use Rattle.writing.specs.declared.Writer.{Writer}
 use Rattle.writing.proofs.Going.{sets_append}
@@ -18,14 +19,15 @@ written_as e p = rw e p
 
 -- no bytes
 pub none_written : (a : Writer) → a.at ≤ length a.room.now → Writes [] a a
-none_written a h = record { room = refl; put = record { fits = omega (arith, h); ends = omega arith; memory = refl } }
+none_written a h = record { room = refl; size = refl; put = record { fits = omega (arith, h); ends = omega arith; memory = refl } }
 
--- writing goes on inside of the room, which has its size
-pub written_size : {bytes : List ℕ} {a b : Writer} → Writes bytes a b → length b.room.now ≡ length a.room.now
-written_size {bytes} {a} p = rw p.put.memory (length-sets a.room.now a.at bytes)
+-- a room in which bytes were put has its size
+pub written_by : {bytes : List ℕ} {a b : Writer} → b.room.ghost_name ≡ a.room.ghost_name → Put bytes a.at a.room.now b.at b.room.now → Writes bytes a b
+written_by {bytes} {a} e p = record { room = e; size = rw p.memory (length-sets a.room.now a.at bytes); put = p }
 
+-- writing goes on inside of the room
 pub written_within : {bytes : List ℕ} {a b : Writer} → Writes bytes a b → b.at ≤ length b.room.now
-written_within p = omega (arith, p.put.fits, p.put.ends, written_size p)
+written_within p = omega (arith, p.put.fits, p.put.ends, p.size)
 
 -- two parts
 module _ (x y : List ℕ) {whole : List ℕ} (e : whole ≡ x ++ y) (a : Writer) where
@@ -36,19 +38,23 @@ module _ (x y : List ℕ) {whole : List ℕ} (e : whole ≡ x ++ y) (a : Writer)
     pub second_part : Fits whole a → Fits y b
     second_part h =
         let n : length whole ≡ length x + length y = rw e (length-append x y) in
-        omega (arith, h, n, written_size p, p.put.ends)
+        omega (arith, h, n, p.size, p.put.ends)
 
     pub both_parts : {c : Writer} → Writes y b c → Writes whole a c
     both_parts q =
         let n : length whole ≡ length x + length y = rw e (length-append x y) in
         record {
           room = q.room ∙ p.room;
+          size = q.size ∙ p.size;
           put = record {
-            fits = omega (arith, q.put.fits, n, written_size p, p.put.ends);
+            fits = omega (arith, q.put.fits, n, p.size, p.put.ends);
             ends = omega (arith, q.put.ends, p.put.ends, n);
             memory = q.put.memory ∙ rw (p.put.memory, p.put.ends, e) (sym (sets_append x y a.room.now a.at));
           };
         }
+
+pub joined : {x y : List ℕ} {a b c : Writer} → Writes x a b → Writes y b c → Writes (x ++ y) a c
+joined {x} {y} {a} p q = both_parts x y refl a p q
 
 -- Of `whole`, which was begun at `a`, the part `rest` is left at `b`.
 pub record Going (whole : List ℕ) (a : Writer) (rest : List ℕ) (b : Writer) : Type 0 where

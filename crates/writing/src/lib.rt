@@ -69,6 +69,7 @@ impl<'a> Writer<'a> {
     }
 
     // A space and a number.
+    #[tactic(auto, using(crate::proofs::Parts::both_parts))]
     pub fn put_field(&mut self, n: u64)
         requires { Fits (field n) self.old }
         ensures { Writes (field n) self.old self.new }
@@ -78,6 +79,7 @@ impl<'a> Writer<'a> {
     }
 
     // A label and a number.
+    #[tactic(auto, using(crate::proofs::Parts::both_parts))]
     pub fn put_counted(&mut self, label: &[u8], n: u64)
         requires { Fits (counted label.now n) self.old }
         ensures { Writes (counted label.now n) self.old self.new }
@@ -126,36 +128,6 @@ pub fn put_text(text: &[u8], room: &mut [u8], at: usize) -> usize
 {
     let mut w = Writer { room, at };
     w.put_text(text);
-    w.at
-}
-
-// A number in decimal digits.
-pub fn put_decimal(n: u64, room: &mut [u8], at: usize) -> usize
-    requires { at + length (decimal n) ≤ length room.old }
-    ensures { Put (decimal n) at room.old result room.new }
-{
-    let mut w = Writer { room, at };
-    w.put_decimal(n);
-    w.at
-}
-
-// A space and a number.
-pub fn put_field(n: u64, room: &mut [u8], at: usize) -> usize
-    requires { at + length (field n) ≤ length room.old }
-    ensures { Put (field n) at room.old result room.new }
-{
-    let mut w = Writer { room, at };
-    w.put_field(n);
-    w.at
-}
-
-// A label and a number.
-pub fn put_counted(label: &[u8], n: u64, room: &mut [u8], at: usize) -> usize
-    requires { at + length (counted label.now n) ≤ length room.old }
-    ensures { Put (counted label.now n) at room.old result room.new }
-{
-    let mut w = Writer { room, at };
-    w.put_counted(label, n);
     w.at
 }
 
