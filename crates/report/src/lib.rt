@@ -64,7 +64,6 @@ pub fn put_sums(words: u64, refused: u64, label: &[u8], sum: u64, w: &mut Writer
 }
 
 // A word with its breaks, and a line feed.
-#[tactic(auto, using(writing::proofs::Parts::both_parts))]
 pub fn put_line(marks: &[u8], word: &[u8], w: &mut Writer)
     requires { (length word.now ≤ length marks.now) × Fits (hyphenated (hyphen ∷ []) marks.now word.now ++ (line_feed ∷ [])) w.old }
     ensures { Writes (hyphenated (hyphen ∷ []) marks.now word.now ++ (line_feed ∷ [])) w.old w.new }
