@@ -33,6 +33,7 @@ use Rattle.hyphenation.proofs.Theorems.{breaks_few}
 use Rattle.runs.specs.Held.{last_of, but_last, waits, finished}
 use Rattle.runs.specs.Reached.{is_fine, is_word, can_be_held}
 use Rattle.runs.proofs.Laws.{zero_none, letter_other}
+use Rattle.runs.proofs.Reached.{fine_is}
 use Rattle.runs.proofs.Words.{good_last}
 use Rattle.runs.proofs.Short.{finished_short}
 use Rattle.flowing.specs.Output.{break_sign, as_read, broken, word_looks, sum, finished_text, finished_looks}
@@ -91,10 +92,6 @@ module _ (left right : ℕ) (word customer house table marks : List ℕ) (good :
 
 -- what can be held
 module _ (kept : List ℕ) (can : can_be_held kept ≡ true) (some : length kept ≡ 0 → ⊥) where
-  fine_is : (c : Check) → is_fine c ≡ true → c ≡ Ok tt
-  fine_is (Ok _) e = refl
-  fine_is (Err g) e = never e
-
   pub held_good : (last_of kept ≡ apostrophe → ⊥) → judge_word word_limit kept ≡ Ok tt
   unfolding can_be_held is_word waits
   held_good q =

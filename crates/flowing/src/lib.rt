@@ -14,8 +14,9 @@ use hyphenation::Setting;
 use words::Word;
 use writing::Writer;
 
-// A text as far as it is taken: the bytes held, how many they are, the run, and the looks so far. Its output goes to a writer beside it and
-// not within: of a `&mut` two structs deep the check doesn't tell who lent it what it ends as.
+// A text as far as it is taken: the bytes held, how many of their buffer they are (fixed memory, no heap), the run, and the looks so far.
+// The writer of the output stands beside it: inside, the proof didn't close, as of a `&mut` two structs deep its lender doesn't learn what it
+// ends as.
 #[derive(Clone, Copy)]
 pub struct Flow {
     pub held: [u8; base::HELD_LIMIT],

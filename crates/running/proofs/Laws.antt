@@ -74,11 +74,15 @@ front {text = text} {out = out} z r p =
     let e : 0 + length text ≡ length text = zero-add (length text) in
     (p.put.ends ∙ rw (z, e), p.put.memory ∙ sets-eq text out.room.now out.at p.put.fits ∙ rw (z, e, r))
 
+-- what a state that a text left holds
+pub left_held : (s : TextState) (l : Left s) → held_in s ≡ l.held
+left_held s l = ap held_in l.is ∙ held_in_lem l.held s.total
+
+pub left_reached : (s : TextState) (l : Left s) → is_reached (held_in s) s.total ≡ true
+left_reached s l = rw (left_held s l) ((reached_exactly l.held s.total).1 l.reached)
+
 -- a state that a text left
 module _ (s : TextState) (wide : length s.held ≡ held_limit) (l : Left s) where
-  held_is : held_in s ≡ l.held
-  held_is = ap held_in l.is ∙ held_in_lem l.held s.total
-
   held_size : s.size ≡ length (bytes_of l.held)
   unfolding state_of
   held_size = ap (λ (t : TextState). t.size) l.is
@@ -109,9 +113,6 @@ module _ (s : TextState) (wide : length s.held ≡ held_limit) (l : Left s) wher
   run_quiet Gone n = refl
   run_quiet GoneMarked n = refl
 
-  reached_is : is_reached (held_in s) s.total ≡ true
-  reached_is = rw held_is ((reached_exactly l.held s.total).1 l.reached)
-
   quiet : (s.run ≡ 0 → ⊥) → s.size ≡ 0
   quiet n = held_size ∙ run_quiet l.held (λ z. n (run_is ∙ z))
 
@@ -122,7 +123,7 @@ module _ (s : TextState) (wide : length s.held ≡ held_limit) (l : Left s) wher
       record {
         shaped = record { wide = wide; within = size_within; known = rw run_is (run_known l.held); quiet = quiet };
         total = s.total;
-        reached = reached_is;
+        reached = left_reached s l;
         fits = rw (z, e) (omega (arith, r));
         few = omega (arith, t);
       }
@@ -132,7 +133,7 @@ module _ (s : TextState) (wide : length s.held ≡ held_limit) (l : Left s) wher
   bytes_held = bytes_by s.run (take s.size s.held) (λ n. ap (λ (k : ℕ). take k s.held) (quiet n))
 
   pub ends_can : can_be_held (take s.size s.held) ≡ true
-  ends_can = ap can_be_held (sym bytes_held) ∙ held_can (held_in s) s.total reached_is
+  ends_can = ap can_be_held (sym bytes_held) ∙ held_can (held_in s) s.total (left_reached s l)
 
   flushed_is : {A : Type 0} (byte : ℕ → List A) (word : List ℕ → List A) → (h : Held) → flushed byte word h ≡ finished byte word (bytes_of h)
   unfolding flushed finished

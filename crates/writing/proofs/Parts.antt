@@ -1,13 +1,18 @@
 -- Parts that a writer puts one after the other.
-use Prim.Native.Nat.{ℕ, ◌+◌, ◌≤◌}
-use mathlib.Core.List.{List, [], ◌++◌}
+use Prim.Native.Nat.{ℕ, suc, ◌+◌, ◌≤◌}
+use mathlib.Core.List.{List, [], ◌∷◌, ◌++◌}
 use mathlib.Core.Path.{◌≡◌, refl, sym, ◌∙◌, ap}
+use native.Mathlib.Nat.{add-zero}
 use native.Mathlib.Omega.{arith}
-use lib.ListN.{length, length-append}
-use lib.Seq.{length-sets}
+use lib.ListN.{length, set, length-append}
+use lib.Seq.{sets, length-sets}
+use Rattle.writing.specs.Put.{Put}
 use Rattle.writing.specs.Written.{Fits, Writes}
 use Rattle.writing.specs.declared.Writer.{Writer}
-use Rattle.writing.proofs.Going.{sets_append}
+
+pub sets_append : (xs ys l : List ℕ) (i : ℕ) → sets l i (xs ++ ys) ≡ sets (sets l i xs) (i + length xs) ys
+sets_append [] ys l i = rw (add-zero i)
+sets_append (x ∷ xs) ys l i = let e : i + suc (length xs) ≡ suc i + length xs = omega arith in rw e (sets_append xs ys (set l i x) (suc i))
 
 -- other bytes that are equal
 pub fits_as : {bytes others : List ℕ} (w : Writer) → bytes ≡ others → Fits bytes w → Fits others w
@@ -18,14 +23,15 @@ written_as e p = rw e p
 
 -- no bytes
 pub none_written : (a : Writer) → a.at ≤ length a.room.now → Writes [] a a
-none_written a h = record { room = refl; put = record { fits = omega (arith, h); ends = omega arith; memory = refl } }
+none_written a h = record { room = refl; size = refl; put = record { fits = omega (arith, h); ends = omega arith; memory = refl } }
 
--- writing goes on inside of the room, which has its size
-pub written_size : {bytes : List ℕ} {a b : Writer} → Writes bytes a b → length b.room.now ≡ length a.room.now
-written_size {bytes} {a} p = rw p.put.memory (length-sets a.room.now a.at bytes)
+-- a room in which bytes were put has its size
+pub written_by : {bytes : List ℕ} {a b : Writer} → b.room.ghost_name ≡ a.room.ghost_name → Put bytes a.at a.room.now b.at b.room.now → Writes bytes a b
+written_by {bytes} {a} e p = record { room = e; size = rw p.memory (length-sets a.room.now a.at bytes); put = p }
 
+-- writing goes on inside of the room
 pub written_within : {bytes : List ℕ} {a b : Writer} → Writes bytes a b → b.at ≤ length b.room.now
-written_within p = omega (arith, p.put.fits, p.put.ends, written_size p)
+written_within p = omega (arith, p.put.fits, p.put.ends, p.size)
 
 -- two parts
 module _ (x y : List ℕ) {whole : List ℕ} (e : whole ≡ x ++ y) (a : Writer) where
@@ -36,19 +42,23 @@ module _ (x y : List ℕ) {whole : List ℕ} (e : whole ≡ x ++ y) (a : Writer)
     pub second_part : Fits whole a → Fits y b
     second_part h =
         let n : length whole ≡ length x + length y = rw e (length-append x y) in
-        omega (arith, h, n, written_size p, p.put.ends)
+        omega (arith, h, n, p.size, p.put.ends)
 
     pub both_parts : {c : Writer} → Writes y b c → Writes whole a c
     both_parts q =
         let n : length whole ≡ length x + length y = rw e (length-append x y) in
         record {
           room = q.room ∙ p.room;
+          size = q.size ∙ p.size;
           put = record {
-            fits = omega (arith, q.put.fits, n, written_size p, p.put.ends);
+            fits = omega (arith, q.put.fits, n, p.size, p.put.ends);
             ends = omega (arith, q.put.ends, p.put.ends, n);
             memory = q.put.memory ∙ rw (p.put.memory, p.put.ends, e) (sym (sets_append x y a.room.now a.at));
           };
         }
+
+pub joined : {x y : List ℕ} {a b c : Writer} → Writes x a b → Writes y b c → Writes (x ++ y) a c
+joined {x} {y} {a} p q = both_parts x y refl a p q
 
 -- Of `whole`, which was begun at `a`, the part `rest` is left at `b`.
 pub record Going (whole : List ℕ) (a : Writer) (rest : List ℕ) (b : Writer) : Type 0 where
@@ -69,7 +79,3 @@ module _ (x y : List ℕ) {whole rest : List ℕ} (e : rest ≡ x ++ y) {a b : W
 -- nothing is left
 pub go_end : {whole rest : List ℕ} {a b : Writer} → rest ≡ [] → Going whole a rest b → Writes whole a b
 go_end {b = b} e g = let n : length _ ≡ 0 = ap length e in g.whole_by b (written_as e (none_written b (omega (arith, g.fits, n))))
-
--- the last part ends it
-pub go_last : {whole rest : List ℕ} {a b c : Writer} → Going whole a rest b → Writes rest b c → Writes whole a c
-go_last {c = c} g p = g.whole_by c p

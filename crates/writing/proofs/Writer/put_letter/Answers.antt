@@ -2,8 +2,5 @@ use Rattle.writing.proofs.Laws.{letter_marked}
 use Rattle.writing.proofs.Parts.{second_part, both_parts}
 use Rattle.writing.proofs.Writer.put_letter.Goals as goal
 
-pub put_byte-requires-2 : goal.put_byte-requires-2
-put_byte-requires-2 c = second_part _ _ (letter_marked c.args.sign.now c.args.mark c.args.b c.if-mark-eq0.false) _ c.put_text.ensures c.requires
-
 pub returns : goal.returns
 returns c = both_parts _ _ (letter_marked c.args.sign.now c.args.mark c.args.b c.if-mark-eq0.false) _ c.put_text.ensures c.put_byte-2.ensures
