@@ -1,13 +1,11 @@
 -- No word runs out, and more budget than the bound changes nothing.
 use Prim.Native.Nat.{ℕ, ◌+◌, ◌*◌, ◌-◌, ◌<◌, ◌≤◌}
-use mathlib.Core.Bool.{Bool, true, false, cond}
+use mathlib.Core.Bool.{true}
 use mathlib.Core.List.{List}
 use mathlib.Core.Path.{◌≡◌, refl, ◌∙◌, ap}
 use native.Mathlib.Omega.{arith}
-use borrow.Author.Tests.{leb-false}
-use lib.Dec.{leb}
 use lib.ListN.{length}
-use Rattle.base.specs.Limits.{word_limit1980, short_word1980}
+use Rattle.base.specs.Limits.{word_limit1980}
 use Rattle.std.specs.Prelude.{Ok}
 use Rattle.words.specs.Words.{judge_letters}
 use Rattle.sheet1980.specs.Sheet.{u, mem, sheet_of, Sheet}
@@ -89,24 +87,13 @@ module _ (word : List ℕ) (judged : judge_letters word_limit1980 word ≡ Ok tt
   -- Under any budget from 32 n + 8 on a word is answered, and executes at most so many instructions.
   pub within : (budget : ℕ) → most_executed (length word) ≤ budget → Within (most_executed (length word)) (machine budget word)
   unfolding machine
-  within budget b = go (leb (length word) short_word1980) refl
-    where
-      go : (z : Bool) → leb (length word) short_word1980 ≡ z → Within (most_executed (length word)) (cond z (Marked infinity (sheet_of word) 0) (run budget (length word) (sheet_of word)))
-      go true p = omega arith
-      go false p = run_within budget (length word) (sheet_of word) (written word_limit1980 word judged) (leb-false (length word) short_word1980 p) b
+  within budget b = let h = run_within budget (length word) (sheet_of word) (written word_limit1980 word judged) in grind arith
 
   -- and the answer is the same for all of them.
   pub any_budget : (budget : ℕ) → most_executed (length word) ≤ budget → machine budget word ≡ machine (most_executed (length word)) word
   unfolding machine
-  any_budget budget b = go (leb (length word) short_word1980) refl
-    where
-      most : ℕ
-      most = most_executed (length word)
-
-      go : (z : Bool) → leb (length word) short_word1980 ≡ z
-          → cond z (Marked infinity (sheet_of word) 0) (run budget (length word) (sheet_of word)) ≡ cond z (Marked infinity (sheet_of word) 0) (run (32 * length word + 8) (length word) (sheet_of word))
-      go true p = refl
-      go false p =
-          let e : budget ≡ 32 * length word + 8 + (budget - (32 * length word + 8)) = omega arith in
-          ap (λ k. run k (length word) (sheet_of word)) e
-          ∙ run_same (32 * length word + 8) (budget - (32 * length word + 8)) (length word) (sheet_of word) (written word_limit1980 word judged) (leb-false (length word) short_word1980 p) (omega arith)
+  any_budget budget b =
+      let most = most_executed (length word) in
+      let e : budget ≡ most + (budget - most) = omega arith in
+      let h = run_same most (budget - most) (length word) (sheet_of word) (written word_limit1980 word judged) in
+      grind arith

@@ -1,24 +1,22 @@
 -- What follows for the customer.
 use Prim.Native.Nat.{ℕ, ◌+◌, ◌*◌, ◌-◌, ◌<◌, ◌≤◌}
-use mathlib.Core.Bool.{true, ◌&&◌}
-use mathlib.Core.List.{List, [], ◌∷◌}
+use mathlib.Core.Bool.{true}
+use mathlib.Core.List.{List}
 use mathlib.Core.Path.{◌≡◌, refl, sym, ◌∙◌, ap, subst}
 use native.Mathlib.Omega.{arith}
-use borrow.Author.Tests.{leb-true}
-use lib.Dec.{leb}
 use lib.ListN.{length}
 use Rattle.base.specs.Limits.{word_limit1980, short_word1980, budget1980}
-use Rattle.base.specs.Grounds.{Said, Finds, Refuses, first_of, Check}
+use Rattle.base.specs.Grounds.{Finds, Refuses, told, first_of, Check}
+use Rattle.base.specs.declared.Ground.{Ground}
 use Rattle.std.specs.Prelude.{Ok, Err, None}
 use Rattle.base.proofs.Grounds.{Ordered, said_found, said_refused_lem, no_refusal}
-use Rattle.base.proofs.Lists.{both, clash}
 use Rattle.words.specs.Words.{judge_letters}
 use Rattle.words.proofs.Laws.{letters_fit}
 use Rattle.sheet1980.specs.Sheet.{u, sheet_of}
 use Rattle.suffix1980.specs.Suffixes.{infinity, sufbegin, rows_fetched, all_instructions}
 use Rattle.suffix1980.proofs.Masks.{no_mask_fetched}
 use Rattle.machine1980.specs.Run.{Outcome, RanOut, Marked, machine}
-use Rattle.machine1980.specs.Breaks.{shows, in_print, is_break}
+use Rattle.machine1980.specs.Breaks.{in_print, is_break}
 use Rattle.machine1980.specs.Calls.{grounds1980, judge1980, answered_found, ran_out_found, said1980, values_of, answer1980, room_left, room1980, Reprints, Answer1980}
 use Rattle.machine1980.proofs.Order.{ordered_1980, judged_fine}
 use Rattle.machine1980.proofs.Written.{written, all_letters}
@@ -27,7 +25,7 @@ use Rattle.machine1980.proofs.Budgets.{most_executed, Within, within, any_budget
 
 ran_not : (most : ℕ) (o : Outcome) → Within most o → o ≡ RanOut → ⊥
 ran_not most RanOut w e = w
-ran_not most (Marked finale marks executed) w e = clash cc
+ran_not most (Marked finale marks executed) w e = cc
 
 executed_few : (most : ℕ) (o : Outcome) → Within most o → {finale executed : ℕ} {marks : List ℕ} → o ≡ Marked finale marks executed → executed ≤ most
 executed_few most o w {finale} {executed} {marks} e = subst (λ (x : Outcome). Within most x) e w
@@ -60,10 +58,7 @@ short_words budget word h =
 -- "Hyphens show before letters 3 to n - 2": a break is a gap from 2 to n - 3.
 pub breaks_inside : (n finale : ℕ) (marks : List ℕ) (g : ℕ) → is_break n finale marks g ≡ true → (2 ≤ g) × (g + 3 ≤ n)
 unfolding is_break in_print
-breaks_inside n finale marks g e =
-    let a = both (leb 3 (g + 1) && leb (g + 1 + 2) n) (shows finale marks (g + 1)) e in
-    let b = both (leb 3 (g + 1)) (leb (g + 1 + 2) n) a.0 in
-    (omega (arith, leb-true 3 (g + 1) b.0), omega (arith, leb-true (g + 1 + 2) n b.1))
+breaks_inside n finale marks g e = grind arith
 
 -- The same of the call: no answer is "ran out", and under every budget from 2,024 on all answers and rooms are the same.
 abbrev pub enough : ℕ
@@ -72,15 +67,13 @@ enough = 2024
 ordered_as : (word : List ℕ) (size : ℕ) {c : Check} → judge1980 word size ≡ c → Ordered c (grounds1980 word size)
 ordered_as word size e = subst (λ (x : Check). Ordered x (grounds1980 word size)) e (ordered_1980 word size)
 
+refused_as : (word : List ℕ) (size : ℕ) {g : Ground} → judge1980 word size ≡ Err g → (budget : ℕ) → first_of (Finds (values_of (length word) (machine budget word))) (grounds1980 word size) ≡ Refuses (told g)
+refused_as word size j budget = said_refused_lem (ordered_as word size j) (values_of (length word) (machine budget word))
+
 no_ran_out : (n most : ℕ) (o : Outcome) → Within most o → Finds (values_of n o) ≡ Finds ran_out_found → ⊥
 unfolding values_of
 no_ran_out n most RanOut w e = w
-no_ran_out n most (Marked finale marks executed) w e = clash (ap (λ (s : Said). first_value s) e)
-  where
-    first_value : Said → ℕ
-    first_value (Finds []) = 0
-    first_value (Finds (v ∷ values)) = v
-    first_value (Refuses t) = 0
+no_ran_out n most (Marked finale marks executed) w e = cc
 
 pub never_ran_out : (word room after : List ℕ) (r : Answer1980) → Reprints budget1980 word room r after → r ≡ Ok None → ⊥
 unfolding said1980 answer1980
@@ -94,7 +87,7 @@ never_ran_out word room after r p e = go (judge1980 word (length room)) refl
         let w = judged_fine word (length room) j in
         no_ran_out (length word) (most_executed (length word)) (machine budget1980 word) (within word w budget1980 (omega (arith, letters_fit word_limit1980 word w)))
         (sym (said ∙ said_found (ordered_as word (length room) j) (values_of (length word) (machine budget1980 word))))
-    go (Err g) j = no_refusal (said ∙ said_refused_lem (ordered_as word (length room) j) (values_of (length word) (machine budget1980 word)))
+    go (Err g) j = no_refusal (said ∙ refused_as word (length room) j budget1980)
 
 module _ (a b : ℕ) (h : enough ≤ a) (k : enough ≤ b) (word : List ℕ) where
   machines_same : judge_letters word_limit1980 word ≡ Ok tt → machine a word ≡ machine b word
@@ -106,9 +99,8 @@ module _ (a b : ℕ) (h : enough ≤ a) (k : enough ≤ b) (word : List ℕ) whe
     where
       go : (c : Check) → judge1980 word size ≡ c
           → first_of (Finds (values_of (length word) (machine a word))) (grounds1980 word size) ≡ first_of (Finds (values_of (length word) (machine b word))) (grounds1980 word size)
-      go (Ok _) j = ap (λ (o : Outcome). first_of (Finds (values_of (length word) o)) (grounds1980 word size)) (machines_same (judged_fine word size j))
-      go (Err g) j =
-          said_refused_lem (ordered_as word size j) (values_of (length word) (machine a word)) ∙ sym (said_refused_lem (ordered_as word size j) (values_of (length word) (machine b word)))
+      go (Ok tt) j = rw (machines_same (judged_fine word size j))
+      go (Err g) j = rw (refused_as word size j a, refused_as word size j b)
 
   pub rooms_same : (room : List ℕ) → room1980 a word room ≡ room1980 b word room
   unfolding room1980 answer1980
@@ -117,8 +109,5 @@ module _ (a b : ℕ) (h : enough ≤ a) (k : enough ≤ b) (word : List ℕ) whe
       go : (c : Check) → judge1980 word (length room) ≡ c
           → room_left (first_of (Finds (values_of (length word) (machine a word))) (grounds1980 word (length room))) (machine a word) (length word) room
           ≡ room_left (first_of (Finds (values_of (length word) (machine b word))) (grounds1980 word (length room))) (machine b word) (length word) room
-      go (Ok tt) j =
-          ap (λ (o : Outcome). room_left (first_of (Finds (values_of (length word) o)) (grounds1980 word (length room))) o (length word) room) (machines_same (judged_fine word (length room) j))
-      go (Err g) j =
-          ap (λ (s : Said). room_left s (machine a word) (length word) room) (said_refused_lem (ordered_as word (length room) j) (values_of (length word) (machine a word)))
-          ∙ ap (λ (s : Said). room_left s (machine b word) (length word) room) (sym (said_refused_lem (ordered_as word (length room) j) (values_of (length word) (machine b word))))
+      go (Ok tt) j = rw (machines_same (judged_fine word (length room) j))
+      go (Err g) j = rw (refused_as word (length room) j a, refused_as word (length room) j b)

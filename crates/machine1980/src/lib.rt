@@ -92,24 +92,8 @@ fn put_breaks(n: usize, finale: usize, sheet: &[u8], room: &mut [u8])
     }
 }
 
-// What is found of a judged word of more than four letters in a judged room, on a sheet of its size. The room is written at the end.
-#[tactic(auto, using(words::proofs::Laws::letters_fit, crate::proofs::Written::written, crate::proofs::Laws::taken), unfolding(crate::specs::Calls::said1980, crate::specs::Calls::values_of, crate::specs::Calls::left_by, crate::specs::Run::machine))]
-fn reprint_on(budget: usize, word: &[u8], sheet: &mut [u8], room: &mut [u8]) -> Option<Reprint>
-    requires { (judge_letters word_limit1980 word.now ≡ Ok tt) × (short_word1980 < length word.now) × (length sheet.old ≡ length word.now + 2) × (room_size1980 ≤ length room.old) }
-    ensures { Answered budget word.now room.old (Ok result) room.new }
-{
-    let n = word.len();
-    sheet1980::write_word(word, sheet);
-    let made = run_machine(budget, n, sheet)?;
-    put_breaks(n, made.finale, sheet, room);
-    Some(Reprint {
-        breaks: rooms::count_marks(room, base::ROOM_SIZE_1980),
-        executed: made.executed,
-    })
-}
-
-// What is found of a judged word in a judged room.
-#[tactic(auto, using(words::proofs::Laws::letters_fit, rooms::proofs::Laws::cleared_sheet, crate::proofs::Laws::no_breaks, crate::proofs::Laws::no_marks_short), unfolding(crate::specs::Calls::said1980, crate::specs::Calls::values_of, crate::specs::Calls::left_by, crate::specs::Run::machine))]
+// What is found of a judged word in a judged room, which is written at the end.
+#[tactic(auto, using(words::proofs::Laws::letters_fit, rooms::proofs::Laws::cleared_sheet, crate::proofs::Written::written, crate::proofs::Laws::taken, crate::proofs::Laws::no_breaks, crate::proofs::Laws::no_marks_short), unfolding(crate::specs::Calls::said1980, crate::specs::Calls::values_of, crate::specs::Calls::left_by, crate::specs::Run::machine))]
 fn find_breaks(budget: usize, word: &[u8], room: &mut [u8]) -> Option<Reprint>
     requires { (judge_letters word_limit1980 word.now ≡ Ok tt) × (room_size1980 ≤ length room.old) }
     ensures { Answered budget word.now room.old (Ok result) room.new }
@@ -123,7 +107,14 @@ fn find_breaks(budget: usize, word: &[u8], room: &mut [u8]) -> Option<Reprint>
         });
     }
     let mut codes = [0u8; SHEET_SIZE];
-    reprint_on(budget, word, &mut codes[0..n + 2], room)
+    let sheet = &mut codes[..n + 2];
+    sheet1980::write_word(word, sheet);
+    let made = run_machine(budget, n, sheet)?;
+    put_breaks(n, made.finale, sheet, room);
+    Some(Reprint {
+        breaks: rooms::count_marks(room, base::ROOM_SIZE_1980),
+        executed: made.executed,
+    })
 }
 
 // The call under a budget.
