@@ -2,24 +2,22 @@
 use Prim.Native.Nat.{ℕ, zero, suc, ◌+◌, ◌-◌, ◌≤◌, ◌<◌}
 use mathlib.Core.Bool.{Bool, true, false, cond, not, ◌&&◌, or-true}
 use mathlib.Core.List.{List, [], ◌∷◌}
-use mathlib.Core.Path.{◌≡◌, refl, sym, ◌∙◌, ap, subst}
+use mathlib.Core.Path.{◌≡◌, refl, sym, ◌∙◌, ap}
 use native.Mathlib.Omega.{arith}
 use native.Mathlib.Numerals.{add-one}
 use borrow.Author.Tests.{eq-eqb, ne_eqb, lt-ltb, le-ltb, ltb-false}
-use lib.Dec.{eqb, ltb, T}
+use lib.Dec.{eqb, ltb}
 use lib.ListN.{length, get_or}
-use lib.Ieee.{Float, nan, inf, fin, binary64, add, lt, ne, is_nan}
-use lib.Ieee.Compare.{differs_from_itself, nan_differs}
+use lib.Ieee.{Float, nan, binary64, add, lt, is_nan}
 use Rattle.base.specs.Limits.{room_size, word_limit, width_count, letter_limit, apostrophe_symbol}
 use Rattle.base.specs.Grounds.{Finds, refuse_if, Check}
 use Rattle.std.specs.Prelude.{Ok, Err, EachIndex}
 use Rattle.base.specs.declared.Ground.{Ground}
 use Rattle.base.specs.declared.Ground.TheVariants.{RoomShort, BadWidth}
 use Rattle.base.proofs.Grounds.{both_fine, not_refused}
-use Rattle.base.proofs.Lists.{never, untrue}
 use Rattle.words.specs.Symbols.{apostrophe, small, letter, lower, symbol_of}
 use Rattle.words.specs.Words.{judge_word, word_byte}
-use Rattle.words.proofs.Laws.{small_low, small_high, symbol_small, apostrophe_lower, byte_letter, word_some, word_fits, word_byte_lem}
+use Rattle.words.proofs.Laws.{small_low, small_high, symbol_small, apostrophe_lower, byte_letter}
 use Rattle.words.proofs.Theorems.{letter_lower}
 use Rattle.gauge.specs.Widths.{zero_width, width_limit, bad_width, any_bad, width_place, letter_width, width_to, fits_in}
 use Rattle.gauge.specs.Fit.{is_marked, whole_fits, hyphen_fits, break_fits, last_of, break_found, break_or_none, fit_values, given, judge_fit, fit_said}
@@ -35,20 +33,9 @@ pub width_above : (x : Float) → lt x zero_width ≡ false → lt width_limit x
 unfolding bad_width
 width_above x e f = rw (e, f)
 
--- only not-a-number differs from itself
-number_same : (x : Float) → is_nan x ≡ false → ne x x ≡ false
-unfolding is_nan
-number_same x e = untrue (ne x x) (λ t. never (sym e ∙ ap is_nan (differs_from_itself x (subst T (sym t) tt))))
-
-differs : (x : Float) → ne x x ≡ is_nan x
-unfolding is_nan
-differs nan = nan_differs
-differs (inf s) = number_same (inf s) refl
-differs (fin s m e) = number_same (fin s m e) refl
-
-pub width_number : (x : Float) → lt x zero_width ≡ false → lt width_limit x ≡ false → ne x x ≡ bad_width x
+pub width_number : (x : Float) → lt x zero_width ≡ false → lt width_limit x ≡ false → is_nan x ≡ bad_width x
 unfolding bad_width
-width_number x e f = differs x ∙ rw (e, f)
+width_number x e f = rw (e, f)
 
 -- is one of some widths bad?
 any_true : (w : List Float) (k : ℕ) → k < length w → bad_width (get_or w k nan) ≡ true → any_bad w ≡ true
@@ -157,23 +144,6 @@ module _ (mark : ℕ) (fits : Bool) (i before : ℕ) where
 
     pub break_misfits : fits ≡ false → before ≡ cond (not (eqb mark 0) && fits) i before
     break_misfits e = rw (ne_eqb mark 0 m, e)
-
--- what a word that is measured is: judged, as are its room and the number of widths
-module _ (widths : List Float) (word room : List ℕ) (p : (length widths ≡ width_count) × (judge_word word_limit word ≡ Ok tt) × (room_size ≤ length room)) where
-  pub some_letter : 1 ≤ length word
-  some_letter = word_some word_limit word p.1
-
-  pub letter_at : (i : ℕ) → i ≤ length word - 1 → i < length word
-  letter_at i h = omega (arith, some_letter)
-
-  pub measured_letter : (i : ℕ) → i ≤ length word - 1 → (length widths ≡ width_count) × (word_byte (get_or word i 0) ≡ true)
-  measured_letter i h = (p.0, word_byte_lem word_limit word p.1 i (letter_at i h))
-
-  pub gap_at : (i : ℕ) → i < length word - 1 → i + 1 < length room
-  gap_at i h = omega (arith, word_fits word_limit word p.1, p.2)
-
-  pub all_letters : (i : ℕ) → i ≤ length word - 1 → length word - 1 ≤ i → i + 1 ≡ length word
-  all_letters i h k = omega (arith, some_letter)
 
 -- What holds behind the first i letters of a judged word: their width, and the last break among the gaps up to there.
 pub record Measured (g : Gauge) (widths : List Float) (word room : List ℕ) (i : ℕ) (width : Float) (found : ℕ) : Type 0 where

@@ -48,7 +48,7 @@ fn is_bad_width(width: f64) -> bool
     if WIDTH_LIMIT < width {
         return true;
     }
-    width != width // only not-a-number differs from itself
+    width.is_nan()
 }
 
 fn any_bad(widths: &[f64]) -> bool
@@ -90,6 +90,7 @@ pub fn judge_fit(
 }
 
 // The width of a letter of either case, or of an apostrophe, whose width stands behind the letters'.
+#[tactic(auto, using(crate::proofs::Laws::apostrophe_is, crate::proofs::Laws::letter_number, crate::proofs::Laws::letter_is, words::proofs::Laws::byte_letter))]
 fn letter_width(widths: &[f64], b: u8) -> f64
     requires { (length widths.now ≡ width_count) × (word_byte b ≡ true) }
     ensures { result ≡ letter_width widths.now b }
@@ -108,6 +109,7 @@ fn fits_in(line: f64, width: f64) -> bool
 }
 
 // The last break so far: gap i, where it is marked and fits, else the one before.
+#[tactic(auto, using(crate::proofs::Laws::break_unmarked, crate::proofs::Laws::break_fits_lem, crate::proofs::Laws::break_misfits))]
 fn last_break(mark: u8, fits: bool, i: usize, before: usize) -> usize
     ensures { result ≡ cond (not (eqb mark 0) && fits) i before }
 {
@@ -121,6 +123,7 @@ fn last_break(mark: u8, fits: bool, i: usize, before: usize) -> usize
 }
 
 // What is found of a judged word in a judged room.
+#[tactic(auto, using(words::proofs::Laws::word_some, words::proofs::Laws::word_fits, words::proofs::Laws::word_byte_lem))]
 fn find_fit(gauge: Gauge, widths: &[f64], word: &Word, room: &[u8]) -> Fitting
     requires { (length widths.now ≡ width_count) × (room_size ≤ length room.now) }
     ensures { fit_said (Ok result) ≡ Finds (fit_values gauge widths.now word.now.bytes.now room.now) }

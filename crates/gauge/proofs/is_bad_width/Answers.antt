@@ -1,5 +1,6 @@
 -- a float in code is read off its bits
 use lib.Ieee.{of_bits}
+use mathlib.Core.Path.{◌∙◌}
 use Rattle.gauge.proofs.Laws.{width_below, width_above, width_number}
 use Rattle.gauge.proofs.is_bad_width.Goals as goal
 
@@ -13,4 +14,4 @@ returns-then-width-2 c = width_above _ c.if-width.false c.if-width-2.true
 
 pub returns : goal.returns
 unfolding of_bits
-returns c = width_number _ c.if-width.false c.if-width-2.false
+returns c = c.is_nan.ensures.value ∙ width_number _ c.if-width.false c.if-width-2.false
