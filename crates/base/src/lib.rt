@@ -101,7 +101,7 @@ impl Ground {
         }
     }
 
-    // The list that it names, 0 where it names none.
+    // The list that it names. No Option: `told` has 0 where none is, and so the answers of C have it.
     pub fn list(self) -> usize
         ensures { result ≡ (told self).list }
     {
@@ -111,7 +111,7 @@ impl Ground {
         }
     }
 
-    // The place that it tells, 0 where it tells none.
+    // The place that it tells, in the same way 0 where none is.
     pub fn place(self) -> usize
         ensures { result ≡ (told self).place }
     {
