@@ -10,7 +10,8 @@ use lib.ListN.{length, get_or, drop, drop_of_length-le}
 use lib.Seq.{length-sets}
 use Rattle.base.specs.Limits.{word_limit, room_per_byte}
 use Rattle.base.proofs.Lists.{cons_at}
-use Rattle.writing.proofs.Going.{Going, go_start, go_step, go_end}
+use Rattle.writing.specs.declared.Writer.{Writer}
+use Rattle.writing.proofs.Parts.{Going, go_start, go_step, go_end}
 use Rattle.words.specs.Symbols.{letter}
 use Rattle.runs.specs.Text.{spread, Held, Holding, Gone, GoneMarked}
 use Rattle.runs.specs.Held.{joins, next, held_after, finished, given, piece_out, bytes_of}
@@ -80,32 +81,30 @@ module _ (left right : ℕ) (customer house table : List ℕ) where
   unfolding held_after
   after_turn s b t = refl
 
-  module _ (piece : List ℕ) (f₀ : Flow) (held₀ room₀ : List ℕ) where
+  module _ (piece : List ℕ) (f₀ : Flow) (out₀ : Writer) where
     -- what holds before byte i
-    pub record Taking (i : ℕ) (f : Flow) (held room : List ℕ) : Type 0 where
+    pub record Taking (i : ℕ) (f : Flow) (out : Writer) : Type 0 where
       pub within : i ≤ length piece
-      pub ready : Ready (length piece - i) f held room
-      pub going : Going (Text (flow_held f₀ held₀) piece) f₀.at room₀ (Text (flow_held f held) (drop i piece)) f.at room
-      pub looks : f₀.looks + Looks (flow_held f₀ held₀) piece ≡ f.looks + Looks (flow_held f held) (drop i piece)
-      pub after : held_after (flow_held f₀ held₀) piece ≡ held_after (flow_held f held) (drop i piece)
-      pub wide : length held ≡ length held₀
+      pub ready : Ready (length piece - i) f out
+      pub going : Going (Text (flow_held f₀) piece) out₀ (Text (flow_held f) (drop i piece)) out
+      pub looks : f₀.looks + Looks (flow_held f₀) piece ≡ f.looks + Looks (flow_held f) (drop i piece)
+      pub after : held_after (flow_held f₀) piece ≡ held_after (flow_held f) (drop i piece)
 
-    pub start : Ready (length piece) f₀ held₀ room₀ → Taking 0 f₀ held₀ room₀
+    pub start : Ready (length piece) f₀ out₀ → Taking 0 f₀ out₀
     start r =
         record {
           within = omega arith;
           ready = rw (sub-zero (length piece)) r;
           going =
-              go_start (Text (flow_held f₀ held₀) piece) f₀.at room₀
-              (omega (arith, r.fits, text_short left right customer house table (flow_held f₀ held₀) piece, size_is f₀ held₀ r.shaped));
+              go_start (Text (flow_held f₀) piece) out₀
+              (omega (arith, r.fits, text_short left right customer house table (flow_held f₀) piece, size_is f₀ r.shaped));
           looks = refl;
           after = refl;
-          wide = refl;
         }
 
-    module _ (i : ℕ) (h : i < length piece) (f : Flow) (held room : List ℕ) (t : Taking i f held room) where
+    module _ (i : ℕ) (h : i < length piece) (f : Flow) (out : Writer) (t : Taking i f out) where
       -- one byte is ready
-      pub ready_one : Ready 1 f held room
+      pub ready_one : Ready 1 f out
       ready_one =
           record {
             shaped = t.ready.shaped;
@@ -115,14 +114,14 @@ module _ (left right : ℕ) (customer house table : List ℕ) where
             few = omega (arith, h, t.ready.few);
           }
 
-      pub turn : {r : Flow} {held_then after : List ℕ} → Steps left right customer house table (get_or piece i 0) f held room r held_then after → Taking (i + 1) r held_then after
-      turn {r = r} {held_then = held_then} {after = after} st =
-          let s = flow_held f held in
+      pub turn : {r : Flow} {then : Writer} → Steps left right customer house table (get_or piece i 0) f out r then → Taking (i + 1) r then
+      turn {r = r} st =
+          let s = flow_held f in
           let b = get_or piece i 0 in
           let u = drop (i + 1) piece in
           let c = cons_at piece i h in
-          let a₁ = ap length st.put.memory ∙ length-sets room f.at (given_text left right customer house table s b) in
-          let z : length (bytes_of (next s b)) ≡ r.size = ap (λ (x : Held). length (bytes_of x)) (sym st.holds) ∙ size_is r held_then st.shaped in
+          let a₁ = ap length st.put.put.memory ∙ length-sets out.room.now out.at (given_text left right customer house table s b) in
+          let z : length (bytes_of (next s b)) ≡ r.size = ap (λ (x : Held). length (bytes_of x)) (sym st.holds) ∙ size_is r st.shaped in
           record {
             within = omega (arith, h);
             ready =
@@ -130,20 +129,17 @@ module _ (left right : ℕ) (customer house table : List ℕ) where
                   shaped = st.shaped;
                   total = t.ready.total + 1;
                   reached = rw st.holds (next_reached s t.ready.total b t.ready.reached);
-                  fits = omega (arith, h, t.ready.fits, a₁, st.put.ends, text_room s b, z, size_is f held t.ready.shaped);
+                  fits = omega (arith, h, t.ready.fits, a₁, st.put.put.ends, text_room s b, z, size_is f t.ready.shaped);
                   few = omega (arith, h, t.ready.few, st.looked, given_few s b (held_can s t.ready.total t.ready.reached));
                 };
-            going =
-                rw st.holds
-                (go_step room (given_text left right customer house table s b) (Text (next s b) u) (ap (Text s) c ∙ text_turn s b u) t.going st.put);
+            going = rw st.holds (go_step (given_text left right customer house table s b) (Text (next s b) u) (ap (Text s) c ∙ text_turn s b u) t.going st.put);
             looks = t.looks ∙ rw (c, looks_turn s b u, st.looked, st.holds) (omega arith);
             after = t.after ∙ rw (c, after_turn s b u, st.holds);
-            wide = st.shaped.wide ∙ sym t.ready.shaped.wide ∙ t.wide;
           }
 
-    pub done : (i : ℕ) → length piece ≤ i → (f : Flow) (held room : List ℕ) → Taking i f held room → Flows left right customer house table piece f₀ held₀ room₀ f held room
+    pub done : (i : ℕ) → length piece ≤ i → (f : Flow) (out : Writer) → Taking i f out → Flows left right customer house table piece f₀ out₀ f out
     unfolding piece_text piece_looks piece_out held_after sum
-    done i h f held room t =
+    done i h f out t =
         let e : drop i piece ≡ [] = drop_of_length-le piece h in
         record {
           put = go_end (rw e) t.going;

@@ -13,7 +13,8 @@ use lib.ListN.{length, take}
 use lib.Seq.{length-take-le}
 use Rattle.base.specs.Limits.{word_limit, held_limit}
 use Rattle.base.proofs.Lists.{never, both}
-use Rattle.writing.proofs.Going.{go_start, go_end, put_as}
+use Rattle.writing.specs.declared.Writer.{Writer}
+use Rattle.writing.proofs.Parts.{written_as, none_written}
 use Rattle.words.specs.Symbols.{letter, apostrophe}
 use Rattle.words.proofs.Laws.{word_fits}
 use Rattle.runs.specs.Text.{spread, Held, Holding, Gone, GoneMarked}
@@ -56,24 +57,24 @@ unfolding sum
 sum_append [] v = omega arith
 sum_append (n ∷ u) v = omega (arith, sum_append u v)
 
-module _ (left right : ℕ) (customer house table : List ℕ) (b : ℕ) (f : Flow) (held room : List ℕ) (shaped : Shaped f held) where
+module _ (left right : ℕ) (customer house table : List ℕ) (b : ℕ) (f : Flow) (out : Writer) (shaped : Shaped f) where
   abbrev kept : List ℕ
-  kept = take f.size held
+  kept = take f.size f.held
 
   kept_length : length kept ≡ f.size
-  kept_length = length-take-le f.size held (omega (arith, shaped.within, shaped.wide))
+  kept_length = length-take-le f.size f.held (omega (arith, shaped.within, shaped.wide))
 
   -- a text was put, and the buffer is as it was
-  from_goes : {text : List ℕ} {looks : ℕ} (size run : ℕ) {r : Flow} {after : List ℕ} → Goes text looks size run f room r after
-      → given_text left right customer house table (flow_held f held) b ≡ text → given_looks customer house table (flow_held f held) b ≡ looks
-      → held_by run (take size held) ≡ next (flow_held f held) b → size ≤ held_limit → run ≤ 2 → ((run ≡ 0 → ⊥) → size ≡ 0)
-      → Steps left right customer house table b f held room r held after
+  from_goes : {text : List ℕ} {looks : ℕ} (size run : ℕ) {r : Flow} {then : Writer} → Goes text looks size run f out r then
+      → given_text left right customer house table (flow_held f) b ≡ text → given_looks customer house table (flow_held f) b ≡ looks
+      → held_by run (take size f.held) ≡ next (flow_held f) b → size ≤ held_limit → run ≤ 2 → ((run ≡ 0 → ⊥) → size ≡ 0)
+      → Steps left right customer house table b f out r then
   from_goes size run g t l n w k q =
       record {
-        put = put_as t g.put;
+        put = written_as t g.put;
         looked = g.looked ∙ ap (λ (m : ℕ). f.looks + m) (sym l);
-        holds = rw (g.sized, g.ran) n;
-        shaped = record { wide = shaped.wide; within = rw g.sized w; known = rw g.ran k; quiet = λ x. g.sized ∙ q (λ e. x (g.ran ∙ e)) };
+        holds = rw (g.sized, g.ran, g.held) n;
+        shaped = record { wide = rw g.held shaped.wide; within = rw g.sized w; known = rw g.ran k; quiet = λ x. g.sized ∙ q (λ e. x (g.ran ∙ e)) };
       }
 
   -- a letter of a run that was let go
@@ -83,15 +84,15 @@ module _ (left right : ℕ) (customer house table : List ℕ) (b : ℕ) (f : Flo
   gone_letter s (inl e) l = (rw e, rw e, rw (e, l))
   gone_letter s (inr e) l = (rw e, rw e, rw (e, l))
 
-  pub letter_passed : letter b ≡ true → (f.run ≡ 0 → ⊥) → {r : Flow} {after : List ℕ} → Goes (b ∷ []) 0 f.size 1 f room r after
-      → Steps left right customer house table b f held room r held after
+  pub letter_passed : letter b ≡ true → (f.run ≡ 0 → ⊥) → {r : Flow} {then : Writer} → Goes (b ∷ []) 0 f.size 1 f out r then
+      → Steps left right customer house table b f out r then
   letter_passed l n g =
-      let e = gone_letter (flow_held f held) (held_some f.run kept shaped.known n) l in
+      let e = gone_letter (flow_held f) (held_some f.run kept shaped.known n) l in
       from_goes f.size 1 g e.0 e.1 e.2 shaped.within (omega arith) (λ x. shaped.quiet n)
 
   -- a letter that passes the limit
-  pub letter_gone : letter b ≡ true → f.run ≡ 0 → word_limit ≤ f.size → {r : Flow} {after : List ℕ} → Goes (kept ++ (b ∷ [])) 0 0 1 f room r after
-      → Steps left right customer house table b f held room r held after
+  pub letter_gone : letter b ≡ true → f.run ≡ 0 → word_limit ≤ f.size → {r : Flow} {then : Writer} → Goes (kept ++ (b ∷ [])) 0 0 1 f out r then
+      → Steps left right customer house table b f out r then
   unfolding given_text given_looks given next
   letter_gone l z h g =
       let e = held_zero f.run kept z in
@@ -101,21 +102,21 @@ module _ (left right : ℕ) (customer house table : List ℕ) (b : ℕ) (f : Flo
       (λ x. refl)
 
   -- one byte more is held, and nothing is put
-  from_holds : f.at ≤ length room → f.size < held_limit → (f.run ≡ 0) → {r : Flow} {held_then : List ℕ} → Holds b f held r held_then
-      → given_text left right customer house table (flow_held f held) b ≡ [] → given_looks customer house table (flow_held f held) b ≡ 0
-      → Holding (kept ++ (b ∷ [])) ≡ next (flow_held f held) b
-      → Steps left right customer house table b f held room r held_then room
-  from_holds a w z {r = r} {held_then = held_then} g t l n =
+  from_holds : out.at ≤ length out.room.now → f.size < held_limit → (f.run ≡ 0) → {r : Flow} → Holds b f r
+      → given_text left right customer house table (flow_held f) b ≡ [] → given_looks customer house table (flow_held f) b ≡ 0
+      → Holding (kept ++ (b ∷ [])) ≡ next (flow_held f) b
+      → Steps left right customer house table b f out r out
+  from_holds a w z {r = r} g t l n =
       let x : r.run ≡ 0 = g.run ∙ z in
       record {
-        put = rw (t, g.at) (go_end refl (go_start [] f.at room (omega (arith, a))));
+        put = rw t (none_written out a);
         looked = rw (l, g.looks, add-zero f.looks);
-        holds = held_zero r.run (take r.size held_then) x ∙ ap Holding g.kept ∙ n;
+        holds = held_zero r.run (take r.size r.held) x ∙ ap Holding g.kept ∙ n;
         shaped = record { wide = g.wide ∙ shaped.wide; within = omega (arith, g.size, w); known = omega (arith, x); quiet = λ y. absurd (y x) };
       }
 
-  pub letter_held : letter b ≡ true → f.run ≡ 0 → f.size < word_limit → f.at ≤ length room → {r : Flow} {held_then : List ℕ} → Holds b f held r held_then
-      → Steps left right customer house table b f held room r held_then room
+  pub letter_held : letter b ≡ true → f.run ≡ 0 → f.size < word_limit → out.at ≤ length out.room.now → {r : Flow} → Holds b f r
+      → Steps left right customer house table b f out r out
   unfolding given_text given_looks given next sum
   letter_held l z h a g =
       let e = held_zero f.run kept z in
@@ -123,8 +124,8 @@ module _ (left right : ℕ) (customer house table : List ℕ) (b : ℕ) (f : Flo
       from_holds a (omega arith) z g (rw (e, l, w)) (rw (e, l, w)) (rw (e, l, w))
 
   -- an apostrophe behind a run that was let go
-  pub mark_passed : letter b ≡ false → b ≡ apostrophe → f.run ≡ 1 → {r : Flow} {after : List ℕ} → Goes (b ∷ []) 0 f.size 2 f room r after
-      → Steps left right customer house table b f held room r held after
+  pub mark_passed : letter b ≡ false → b ≡ apostrophe → f.run ≡ 1 → {r : Flow} {then : Writer} → Goes (b ∷ []) 0 f.size 2 f out r then
+      → Steps left right customer house table b f out r then
   unfolding given_text given_looks given next sum
   mark_passed l q z g =
       let e = held_gone f.run kept z in
@@ -136,7 +137,7 @@ module _ (left right : ℕ) (customer house table : List ℕ) (b : ℕ) (f : Flo
     where
       go : Dec (f.run ≡ 0) → f.run ≡ 0
       go (yes z) = z
-      go (no n) = never (sym zero_none ∙ sym (ap (λ (k : ℕ). letter (last_of (take k held))) (shaped.quiet n)) ∙ l)
+      go (no n) = never (sym zero_none ∙ sym (ap (λ (k : ℕ). letter (last_of (take k f.held))) (shaped.quiet n)) ∙ l)
 
   pub held_least : can_be_held kept ≡ true → letter (last_of kept) ≡ true → f.size ≤ word_limit
   held_least can l = go (ℕ_discrete f.size 0)
@@ -150,8 +151,8 @@ module _ (left right : ℕ) (customer house table : List ℕ) (b : ℕ) (f : Flo
             word_fits word_limit kept (held_good kept can (λ z. n (sym kept_length ∙ z)) (λ q. never (sym (letter_other (last_of kept) l) ∙ eq-eqb (last_of kept) apostrophe q))),
           )
 
-  pub mark_held : letter b ≡ false → b ≡ apostrophe → letter (last_of kept) ≡ true → can_be_held kept ≡ true → f.at ≤ length room → {r : Flow} {held_then : List ℕ} → Holds b f held r held_then
-      → Steps left right customer house table b f held room r held_then room
+  pub mark_held : letter b ≡ false → b ≡ apostrophe → letter (last_of kept) ≡ true → can_be_held kept ≡ true → out.at ≤ length out.room.now → {r : Flow} → Holds b f r
+      → Steps left right customer house table b f out r out
   unfolding given_text given_looks given next joins sum
   mark_held l q m can a g =
       let z = held_run m in
@@ -166,13 +167,13 @@ module _ (left right : ℕ) (customer house table : List ℕ) (b : ℕ) (f : Flo
 
   -- where nothing is held
   nothing : f.size ≡ 0 → kept ≡ []
-  nothing z = ap (λ (k : ℕ). take k held) z
+  nothing z = ap (λ (k : ℕ). take k f.held) z
 
   -- such a byte's step, whatever is held
   record Ends : Type 0 where
-    pub text : given_text left right customer house table (flow_held f held) b ≡ finished_text left right customer house table kept ++ (b ∷ [])
-    pub looks : given_looks customer house table (flow_held f held) b ≡ finished_looks customer house table kept
-    pub then : Holding [] ≡ next (flow_held f held) b
+    pub text : given_text left right customer house table (flow_held f) b ≡ finished_text left right customer house table kept ++ (b ∷ [])
+    pub looks : given_looks customer house table (flow_held f) b ≡ finished_looks customer house table kept
+    pub then : Holding [] ≡ next (flow_held f) b
 
   ends_held : letter b ≡ false → f.run ≡ 0 → joins kept b ≡ false → Ends
   unfolding given_text given_looks given next finished_text finished_looks sum
@@ -184,7 +185,7 @@ module _ (left right : ℕ) (customer house table : List ℕ) (b : ℕ) (f : Flo
         then = rw (e, l, j);
       }
 
-  ends_gone : (s : Held) → (s ≡ Gone) ⊎ (s ≡ GoneMarked) → flow_held f held ≡ s → Holding [] ≡ next s b → f.size ≡ 0 → Ends
+  ends_gone : (s : Held) → (s ≡ Gone) ⊎ (s ≡ GoneMarked) → flow_held f ≡ s → Holding [] ≡ next s b → f.size ≡ 0 → Ends
   unfolding given_text given_looks given finished_text finished_looks finished sum
   ends_gone s (inl e) p n z = record { text = rw (p, e, nothing z); looks = rw (p, e, nothing z); then = rw p n }
   ends_gone s (inr e) p n z = record { text = rw (p, e, nothing z); looks = rw (p, e, nothing z); then = rw p n }
@@ -202,36 +203,33 @@ module _ (left right : ℕ) (customer house table : List ℕ) (b : ℕ) (f : Flo
   ends : letter b ≡ false → Ending → Ends
   ends l d = go (ℕ_discrete f.run 0) d
     where
-      two : f.run ≤ 2 → (f.run ≡ 0 → ⊥) → (f.run ≡ 1 → ⊥) → flow_held f held ≡ GoneMarked
+      two : f.run ≤ 2 → (f.run ≡ 0 → ⊥) → (f.run ≡ 1 → ⊥) → flow_held f ≡ GoneMarked
       two k n m = held_two f.run kept (omega (arith, k, n, m))
 
       go : Dec (f.run ≡ 0) → (b ≡ apostrophe → ⊥) ⊎ ((f.run ≡ 1 → ⊥) × (letter (last_of kept) ≡ false)) → Ends
       go (yes z) (inl n) = ends_held l z (no_join (inl n))
       go (yes z) (inr (m, e)) = ends_held l z (no_join (inr e))
-      go (no n) (inl q) = let s = held_some f.run kept shaped.known n in ends_gone (flow_held f held) s refl (gone_next (flow_held f held) s l (inr q)) (shaped.quiet n)
+      go (no n) (inl q) = let s = held_some f.run kept shaped.known n in ends_gone (flow_held f) s refl (gone_next (flow_held f) s l (inr q)) (shaped.quiet n)
       go (no n) (inr (m, e)) =
           let s = two shaped.known n m in
-          ends_gone (flow_held f held) (inr s) refl (gone_next (flow_held f held) (inr s) l (inl s)) (shaped.quiet n)
+          ends_gone (flow_held f) (inr s) refl (gone_next (flow_held f) (inr s) l (inl s)) (shaped.quiet n)
 
-  pub word_finished : letter b ≡ false → Ending → {r : Flow} {after : List ℕ}
-      → Goes (finished_text left right customer house table kept ++ (b ∷ [])) (finished_looks customer house table kept) 0 0 f room r after
-      → Steps left right customer house table b f held room r held after
+  pub word_finished : letter b ≡ false → Ending → {r : Flow} {then : Writer}
+      → Goes (finished_text left right customer house table kept ++ (b ∷ [])) (finished_looks customer house table kept) 0 0 f out r then
+      → Steps left right customer house table b f out r then
   word_finished l d g = let e = ends l d in from_goes 0 0 g e.text e.looks e.then (omega arith) (omega arith) (λ x. refl)
 
 -- what the parts ask for
-pub bytes_are : (f : Flow) (held : List ℕ) → Shaped f held → bytes_of (flow_held f held) ≡ take f.size held
-bytes_are f held shaped = go (ℕ_discrete f.run 0)
-  where
-    none : (flow_held f held ≡ Gone) ⊎ (flow_held f held ≡ GoneMarked) → bytes_of (flow_held f held) ≡ []
-    none (inl e) = ap bytes_of e
-    none (inr e) = ap bytes_of e
+pub bytes_by : (run : ℕ) (kept : List ℕ) → ((run ≡ 0 → ⊥) → kept ≡ []) → bytes_of (held_by run kept) ≡ kept
+bytes_by zero kept q = refl
+bytes_by (suc zero) kept q = sym (q (λ e. omega (arith, e)))
+bytes_by (suc (suc k)) kept q = sym (q (λ e. omega (arith, e)))
 
-    go : Dec (f.run ≡ 0) → bytes_of (flow_held f held) ≡ take f.size held
-    go (yes z) = ap bytes_of (held_zero f.run (take f.size held) z)
-    go (no n) = none (held_some f.run (take f.size held) shaped.known n) ∙ sym (ap (λ (k : ℕ). take k held) (shaped.quiet n))
+pub bytes_are : (f : Flow) → Shaped f → bytes_of (flow_held f) ≡ take f.size f.held
+bytes_are f shaped = bytes_by f.run (take f.size f.held) (λ n. ap (λ (k : ℕ). take k f.held) (shaped.quiet n))
 
-pub size_is : (f : Flow) (held : List ℕ) → Shaped f held → length (bytes_of (flow_held f held)) ≡ f.size
-size_is f held shaped = ap length (bytes_are f held shaped) ∙ length-take-le f.size held (omega (arith, shaped.within, shaped.wide))
+pub size_is : (f : Flow) → Shaped f → length (bytes_of (flow_held f)) ≡ f.size
+size_is f shaped = ap length (bytes_are f shaped) ∙ length-take-le f.size f.held (omega (arith, shaped.within, shaped.wide))
 
 pub held_can : (s : Held) (total : ℕ) → is_reached s total ≡ true → can_be_held (bytes_of s) ≡ true
 unfolding is_reached can_be_held
@@ -239,22 +237,19 @@ held_can (Holding l) total e = (both (can_be_held l) _ e).0
 held_can Gone total e = refl
 held_can GoneMarked total e = refl
 
-module _ (f : Flow) (held room : List ℕ) (ready : Ready 1 f held room) where
-  pub kept_can : can_be_held (take f.size held) ≡ true
-  kept_can = ap can_be_held (sym (bytes_are f held ready.shaped)) ∙ held_can (flow_held f held) ready.total ready.reached
+module _ (f : Flow) (out : Writer) (ready : Ready 1 f out) where
+  pub kept_can : can_be_held (take f.size f.held) ≡ true
+  kept_can = ap can_be_held (sym (bytes_are f ready.shaped)) ∙ held_can (flow_held f) ready.total ready.reached
 
-  pub kept_within : f.size ≤ length held
+  pub kept_within : f.size ≤ length f.held
   kept_within = omega (arith, ready.shaped.within, ready.shaped.wide)
 
-  pub room_some : f.at + 1 ≤ length room
-  room_some = omega (arith, ready.fits)
-
-  pub at_within : f.at ≤ length room
+  pub at_within : out.at ≤ length out.room.now
   at_within = omega (arith, ready.fits)
 
-  pub can_finish : Finishes f held room
+  pub can_finish : Finishes f out
   can_finish = record { within = kept_within; good = kept_can; fits = ready.fits; few = omega (arith, ready.few) }
 
   -- an apostrophe is held where there is a place for it
-  pub mark_place : letter (last_of (take f.size held)) ≡ true → f.size < length held
-  mark_place l = omega (arith, held_least 0 0 [] [] [] 0 f held room ready.shaped kept_can l, ready.shaped.wide)
+  pub mark_place : letter (last_of (take f.size f.held)) ≡ true → f.size < length f.held
+  mark_place l = omega (arith, held_least 0 0 [] [] [] 0 f out ready.shaped kept_can l, ready.shaped.wide)

@@ -9,7 +9,7 @@ use lib.Dec.{leb, ltb, eqb}
 use lib.ListN.{length, get_or, take, drop, set, replicate, length-append, length-map, length-replicate, get_or-replicate, get_or-append}
 use lib.Seq.{sets, length-sets, sets-eq, length-take-le, take-append_seam, take_at, get_or-append-add, get_or-drop, get_or-take, set-get_or}
 use Rattle.base.proofs.Lists.{cons_at, never, both}
-use Rattle.writing.proofs.Going.{sets_append}
+use Rattle.writing.proofs.Parts.{sets_append}
 use Rattle.paths.specs.Paths.{slash, path_limit, no_zero, is_path, read, last_slash, folder_size, folder, name_end, name_room, ended_path, Named, fresh_mark, letter_by, fresh_name}
 use Rattle.paths.proofs.Laws.{name_length}
 

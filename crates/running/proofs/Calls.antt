@@ -6,6 +6,7 @@ use mathlib.Core.Path.{◌≡◌, sym, ◌∙◌, ap, subst}
 use native.Mathlib.Omega.{arith}
 use borrow.Author.Tests.{ltb-false}
 use lib.ListN.{length, take}
+use lib.Seq.{length-take-le}
 use Rattle.base.specs.Limits.{room_per_byte, running_text}
 use Rattle.base.specs.Grounds.{refuse_if, Check}
 use Rattle.std.specs.Prelude.{Ok, Err}
@@ -62,14 +63,15 @@ module _ (state s : TextState) (e : Reads state s) (left right : ℕ) (customer 
     end_judged = p ∙ ap (λ (t : TextState). judge_end left right customer house table t.size (length room)) e.is
 
     module _ (q : judged ≡ Ok tt) where
-      pub end_asks : (s.size ≤ length s.held) × (can_be_held (take s.size s.held) ≡ true) × (room_per_byte * s.size ≤ length room)
+      pub end_within : s.size ≤ length s.held
+      end_within = omega (arith, size_within s e.wide e.left, e.wide)
+
+      pub end_asks : (can_be_held (take s.size s.held) ≡ true) × (room_per_byte * length (take s.size s.held) ≤ length room)
       unfolding judge_end
       end_asks =
-          let a = both_fine (judge_setting left right customer house table) _ (sym p ∙ q) in (
-            omega (arith, size_within s e.wide e.left, e.wide),
-            ends_can s e.wide e.left,
-            room_fits s.size (length room) (not_refused (short_for s.size (length room)) TextRoomShort a.1),
-          )
+          let a = both_fine (judge_setting left right customer house table) _ (sym p ∙ q) in
+          let n = length-take-le s.size s.held end_within in
+          (ends_can s e.wide e.left, omega (arith, n, room_fits s.size (length room) (not_refused (short_for s.size (length room)) TextRoomShort a.1)))
 
       abbrev EndPromise : TextState → Taken → List ℕ → Type 0
       EndPromise t r after = Given (judge_end left right customer house table t.size (length room))

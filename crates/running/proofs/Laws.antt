@@ -1,22 +1,21 @@
 -- One law for each way through the code.
-use Prim.Native.Nat.{ℕ, zero, suc, ◌+◌, ◌*◌, ◌-◌, ◌≤◌, ◌<◌}
+use Prim.Native.Nat.{ℕ, zero, suc, ◌+◌, ◌*◌, ◌-◌, ◌≤◌}
 use mathlib.Core.Bool.{Bool, true, false}
 use mathlib.Core.List.{List, [], ◌++◌, append-nil}
 use mathlib.Core.Path.{◌≡◌, refl, sym, ◌∙◌, ap}
-use native.Mathlib.Nat.{sub-zero, zero-add}
-use native.Mathlib.Decide.{dec_lt}
+use native.Mathlib.Nat.{zero-add}
 use native.Mathlib.Omega.{arith}
-use borrow.Author.Tests.{lt-ltb, le-ltb, ltb-false}
-use lib.Dec.{ltb}
+use borrow.Author.Tests.{ltb-false}
 use lib.ListN.{length, take, drop, replicate, length-append, length-replicate, drop_of_length-le}
-use lib.Seq.{sets-eq, length-take-le}
+use lib.Seq.{sets-eq}
 use Rattle.base.specs.Limits.{held_limit, room_per_byte, running_text}
 use Rattle.base.specs.Grounds.{Check}
 use Rattle.std.specs.Prelude.{Ok, Err}
 use Rattle.base.specs.declared.Ground.{Ground}
 use Rattle.base.specs.declared.Ground.TheVariants.{TextRoomShort, RunningLong}
 use Rattle.rooms.specs.Rooms.{is_short, filled}
-use Rattle.writing.specs.Put.{Put}
+use Rattle.writing.specs.Written.{Writes}
+use Rattle.writing.specs.declared.Writer.{Writer}
 use Rattle.runs.specs.Text.{Held, Holding, Gone, GoneMarked}
 use Rattle.runs.specs.Held.{finished, flushed, bytes_of}
 use Rattle.runs.specs.Reached.{can_be_held, is_reached}
@@ -24,26 +23,13 @@ use Rattle.runs.proofs.Reached.{reached_exactly}
 use Rattle.states.specs.State.{run_of, padded, state_of, held_by, held_in, Left}
 use Rattle.states.specs.declared.TextState.{TextState}
 use Rattle.states.proofs.Theorems.{held_in_lem}
-use Rattle.flowing.specs.Output.{as_read, broken, uncounted, counted, sum, finished_text, finished_looks, piece_text, piece_looks, end_text, end_looks}
+use Rattle.flowing.specs.Output.{as_read, broken, uncounted, counted, sum, finished_text, finished_looks, piece_looks, end_text, end_looks}
 use Rattle.flowing.specs.Post.{flow_held, Shows, Shaped, Ready, Flows}
 use Rattle.flowing.specs.declared.Flow.{Flow}
-use Rattle.flowing.specs.declared.Shown.{Shown}
-use Rattle.flowing.proofs.Steps.{bytes_are, held_can}
+use Rattle.flowing.proofs.Steps.{bytes_by, bytes_are, size_is, held_can}
 use Rattle.running.specs.Calls.{passes_end, short_for, judge_setting, judge_piece, judge_end, PiecesDone, EndsDone, written}
 
 -- ground 21
-pub past_total : (total n : ℕ) → running_text < total → true ≡ passes_end total n
-unfolding passes_end
-past_total total n h = sym (lt-ltb running_text (total + n) (omega (arith, h)))
-
-pub past_rest : (total n : ℕ) → total ≤ running_text → ltb (running_text - total) n ≡ passes_end total n
-unfolding passes_end
-past_rest total n h = go (dec_lt running_text (total + n))
-  where
-    go : Dec (running_text < total + n) → ltb (running_text - total) n ≡ ltb running_text (total + n)
-    go (yes p) = lt-ltb (running_text - total) n (omega (arith, p)) ∙ sym (lt-ltb running_text (total + n) p)
-    go (no p) = le-ltb (running_text - total) n (omega (arith, p, h)) ∙ sym (le-ltb running_text (total + n) (omega (arith, p)))
-
 pub past_bound : (total n : ℕ) → passes_end total n ≡ false → total + n ≤ running_text
 unfolding passes_end
 past_bound total n e = ltb-false running_text (total + n) e
@@ -82,20 +68,24 @@ module _ (left right : ℕ) (customer house table : List ℕ) (held size : ℕ) 
     unfolding judge_end short_for
     end_fine g = rw (← p, q, ← d, g)
 
--- a text put at the room's beginning
-front : (text room : List ℕ) (at end : ℕ) {after : List ℕ} → at ≡ 0 → Put text at room end after → (end ≡ length text) × (after ≡ text ++ drop (length text) room)
-front text room at end z p =
-    let e : end ≡ length text = omega (arith, z, p.ends) in
-    (e, p.memory ∙ sets-eq text room at p.fits ∙ rw (z, zero-add (length text)))
+-- a text written at the room's beginning
+front : {text room : List ℕ} {out then : Writer} → out.at ≡ 0 → out.room.now ≡ room → Writes text out then → (then.at ≡ length text) × (then.room.now ≡ text ++ drop (length text) room)
+front {text = text} {out = out} z r p =
+    let e : 0 + length text ≡ length text = zero-add (length text) in
+    (p.put.ends ∙ rw (z, e), p.put.memory ∙ sets-eq text out.room.now out.at p.put.fits ∙ rw (z, e, r))
+
+-- what a state that a text left holds
+pub left_held : (s : TextState) (l : Left s) → held_in s ≡ l.held
+left_held s l = ap held_in l.is ∙ held_in_lem l.held s.total
+
+pub left_reached : (s : TextState) (l : Left s) → is_reached (held_in s) s.total ≡ true
+left_reached s l = rw (left_held s l) ((reached_exactly l.held s.total).1 l.reached)
 
 -- a state that a text left
 module _ (s : TextState) (wide : length s.held ≡ held_limit) (l : Left s) where
-  held_is : held_in s ≡ l.held
-  held_is = ap held_in l.is ∙ held_in_lem l.held s.total
-
-  size_is : s.size ≡ length (bytes_of l.held)
+  held_size : s.size ≡ length (bytes_of l.held)
   unfolding state_of
-  size_is = ap (λ (t : TextState). t.size) l.is
+  held_size = ap (λ (t : TextState). t.size) l.is
 
   run_is : s.run ≡ run_of l.held
   unfolding state_of
@@ -108,7 +98,7 @@ module _ (s : TextState) (wide : length s.held ≡ held_limit) (l : Left s) wher
       omega (
         arith,
         n,
-        size_is,
+        held_size,
         length-append (bytes_of l.held) (replicate (held_limit - length (bytes_of l.held)) 0),
         length-replicate {A = ℕ} (held_limit - length (bytes_of l.held)) 0,
       )
@@ -123,36 +113,27 @@ module _ (s : TextState) (wide : length s.held ≡ held_limit) (l : Left s) wher
   run_quiet Gone n = refl
   run_quiet GoneMarked n = refl
 
-  reached_is : is_reached (held_in s) s.total ≡ true
-  reached_is = rw held_is ((reached_exactly l.held s.total).1 l.reached)
+  quiet : (s.run ≡ 0 → ⊥) → s.size ≡ 0
+  quiet n = held_size ∙ run_quiet l.held (λ z. n (run_is ∙ z))
 
   -- a piece can begin
-  pub starts_ready : (piece room : List ℕ) → s.total + length piece ≤ running_text → room_per_byte * (s.size + length piece) ≤ length room
-      → Ready (length piece) (record { size = s.size; run = s.run; at = 0; looks = 0 }) s.held room
-  starts_ready piece room t r =
+  pub starts_ready : (piece room : List ℕ) {out : Writer} → out.at ≡ 0 → out.room.now ≡ room → s.total + length piece ≤ running_text → room_per_byte * (s.size + length piece) ≤ length room
+      → Ready (length piece) (record { held = s.held; size = s.size; run = s.run; looks = 0 }) out
+  starts_ready piece room z e t r =
       record {
-        shaped =
-            record {
-              wide = wide;
-              within = size_within;
-              known = rw run_is (run_known l.held);
-              quiet = λ n. size_is ∙ run_quiet l.held (λ z. n (run_is ∙ z));
-            };
+        shaped = record { wide = wide; within = size_within; known = rw run_is (run_known l.held); quiet = quiet };
         total = s.total;
-        reached = reached_is;
-        fits = omega (arith, r);
+        reached = left_reached s l;
+        fits = rw (z, e) (omega (arith, r));
         few = omega (arith, t);
       }
 
   -- what the end asks for, and gives
   bytes_held : bytes_of (held_in s) ≡ take s.size s.held
-  bytes_held = bytes_are (record { size = s.size; run = s.run; at = 0; looks = 0 }) s.held (starts_shaped)
-    where
-      starts_shaped : Shaped (record { size = s.size; run = s.run; at = 0; looks = 0 }) s.held
-      starts_shaped = record { wide = wide; within = size_within; known = rw run_is (run_known l.held); quiet = λ n. size_is ∙ run_quiet l.held (λ z. n (run_is ∙ z)) }
+  bytes_held = bytes_by s.run (take s.size s.held) (λ n. ap (λ (k : ℕ). take k s.held) (quiet n))
 
   pub ends_can : can_be_held (take s.size s.held) ≡ true
-  ends_can = ap can_be_held (sym bytes_held) ∙ held_can (held_in s) s.total reached_is
+  ends_can = ap can_be_held (sym bytes_held) ∙ held_can (held_in s) s.total (left_reached s l)
 
   flushed_is : {A : Type 0} (byte : ℕ → List A) (word : List ℕ → List A) → (h : Held) → flushed byte word h ≡ finished byte word (bytes_of h)
   unfolding flushed finished
@@ -171,55 +152,46 @@ module _ (s : TextState) (wide : length s.held ≡ held_limit) (l : Left s) wher
       ap sum (flushed_is uncounted (counted customer house table) (held_in s) ∙ ap (finished uncounted (counted customer house table)) bytes_held)
 
 -- the state that a piece leaves
-run_of_lem : (f : Flow) (held : List ℕ) → Shaped f held → run_of (flow_held f held) ≡ f.run
-run_of_lem f held shaped = go f.run shaped.known
+run_of_lem : (f : Flow) → Shaped f → run_of (flow_held f) ≡ f.run
+run_of_lem f shaped = go f.run shaped.known
   where
-    go : (run : ℕ) → run ≤ 2 → run_of (held_by run (take f.size held)) ≡ run
+    go : (run : ℕ) → run ≤ 2 → run_of (held_by run (take f.size f.held)) ≡ run
     go zero h = refl
     go (suc zero) h = refl
     go (suc (suc zero)) h = refl
     go (suc (suc (suc n))) h = absurd (omega (arith, h))
 
-cleared : (f : Flow) (held : List ℕ) → Shaped f held → filled held_limit (take f.size held) held ≡ padded (bytes_of (flow_held f held))
+cleared : (f : Flow) → Shaped f → filled held_limit (take f.size f.held) f.held ≡ padded (bytes_of (flow_held f))
 unfolding filled padded
-cleared f held shaped =
-    let h : length held ≤ held_limit = omega (arith, shaped.wide) in
-    let d : drop held_limit held ≡ [] = drop_of_length-le held h in
-    rw (bytes_are f held shaped)
-    (ap (λ (r : List ℕ). take f.size held ++ (replicate (held_limit - length (take f.size held)) 0 ++ r)) d
-    ∙ ap (λ (r : List ℕ). take f.size held ++ r) (append-nil (replicate (held_limit - length (take f.size held)) 0)))
+cleared f shaped =
+    let h : length f.held ≤ held_limit = omega (arith, shaped.wide) in
+    let d : drop held_limit f.held ≡ [] = drop_of_length-le f.held h in
+    rw (bytes_are f shaped)
+    (ap (λ (r : List ℕ). take f.size f.held ++ (replicate (held_limit - length (take f.size f.held)) 0 ++ r)) d
+    ∙ ap (λ (r : List ℕ). take f.size f.held ++ r) (append-nil (replicate (held_limit - length (take f.size f.held)) 0)))
 
-left_state : (f : Flow) (held : List ℕ) (total : ℕ) → Shaped f held
-    → ◌≡◌ {A = TextState} (record { held = filled held_limit (take f.size held) held; size = f.size; run = f.run; total = total }) (state_of (flow_held f held) total)
+left_state : (f : Flow) (total : ℕ) → Shaped f
+    → ◌≡◌ {A = TextState} (record { held = filled held_limit (take f.size f.held) f.held; size = f.size; run = f.run; total = total }) (state_of (flow_held f) total)
 unfolding state_of
-left_state f held total shaped =
-    let b : length (bytes_of (flow_held f held)) ≡ f.size = ap length (bytes_are f held shaped) ∙ length-take-le f.size held (omega (arith, shaped.within, shaped.wide)) in
-    rw (cleared f held shaped, b, run_of_lem f held shaped)
+left_state f total shaped = rw (cleared f shaped, size_is f shaped, run_of_lem f shaped)
 
-pub piece_done : (s : TextState) (left right : ℕ) (customer house table piece room : List ℕ) {f : Flow} {held_then after cleaned : List ℕ}
-    → Flows left right customer house table piece (record { size = s.size; run = s.run; at = 0; looks = 0 }) s.held room f held_then after
-    → cleaned ≡ filled held_limit (take f.size held_then) held_then
+pub piece_done : (s : TextState) (left right : ℕ) (customer house table piece room : List ℕ) {out : Writer} → out.at ≡ 0 → out.room.now ≡ room → {f : Flow} {then : Writer} {cleaned after : List ℕ}
+    → Flows left right customer house table piece (record { held = s.held; size = s.size; run = s.run; looks = 0 }) out f then
+    → cleaned ≡ filled held_limit (take f.size f.held) f.held → after ≡ then.room.now
     → PiecesDone s left right customer house table piece room
-    (record { state = record { held = cleaned; size = f.size; run = f.run; total = s.total + length piece }; answer = written f.at f.looks }) after
-piece_done s left right customer house table piece room {f = f} {held_then = held_then} w c =
-    let p = front (piece_text left right customer house table (held_in s) piece) room 0 f.at refl w.put in
+    (record { state = record { held = cleaned; size = f.size; run = f.run; total = s.total + length piece }; answer = written then.at f.looks }) after
+piece_done s left right customer house table piece room z e {f = f} w c a =
+    let p = front z e w.put in
     let k : f.looks ≡ piece_looks customer house table (held_in s) piece = w.looked ∙ zero-add (piece_looks customer house table (held_in s) piece) in
     record {
       answered = rw (p.0, k);
-      state = rw c (left_state f held_then (s.total + length piece) w.shaped ∙ ap (λ (h : Held). state_of h (s.total + length piece)) w.holds);
-      memory = p.1;
+      state = rw c (left_state f (s.total + length piece) w.shaped ∙ ap (λ (h : Held). state_of h (s.total + length piece)) w.holds);
+      memory = a ∙ p.1;
     }
 
-pub end_done : (held : List ℕ) (size left right : ℕ) (customer house table room : List ℕ) {shown : Shown} {after : List ℕ}
-    → Shows (finished_text left right customer house table (take (size - 0) held)) (finished_looks customer house table (take (size - 0) held)) 0 room shown after
-    → EndsDone (take size held) left right customer house table room (written shown.end shown.looks) after
-end_done held size left right customer house table room {shown = shown} s =
-    let e : take (size - 0) held ≡ take size held = ap (λ (k : ℕ). take k held) (sub-zero size) in
-    let p = front (finished_text left right customer house table (take (size - 0) held)) room 0 shown.end refl s.put in
-    record { answered = rw (p.0, s.looked, e); memory = rw (← e) p.1 }
-
-pub end_part : (held : List ℕ) (size : ℕ) (room : List ℕ) → size ≤ length held → can_be_held (take size held) ≡ true → room_per_byte * size ≤ length room
-    → (can_be_held (take (size - 0) held) ≡ true) × (0 + room_per_byte * length (take (size - 0) held) ≤ length room)
-end_part held size room w can h =
-    let e : take (size - 0) held ≡ take size held = ap (λ (k : ℕ). take k held) (sub-zero size) in
-    (ap can_be_held e ∙ can, omega (arith, h, ap length e, length-take-le size held w))
+pub end_done : (held : List ℕ) (left right : ℕ) (customer house table room : List ℕ) {out then : Writer} → out.at ≡ 0 → out.room.now ≡ room → {shown : ℕ} {after : List ℕ}
+    → Shows (finished_text left right customer house table held) (finished_looks customer house table held) out shown then
+    → after ≡ then.room.now → EndsDone held left right customer house table room (written then.at shown) after
+end_done held left right customer house table room z e s a =
+    let p = front z e s.put in
+    record { answered = rw (p.0, s.looked); memory = a ∙ p.1 }

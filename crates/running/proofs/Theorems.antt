@@ -17,7 +17,7 @@ use Rattle.runs.specs.Held.{held_after, piece_out, flushed, joined}
 use Rattle.runs.specs.Reached.{is_fine, can_be_held, is_reached}
 use Rattle.runs.proofs.Cut.{piece_cut, one_piece}
 use Rattle.runs.proofs.Kept.{held_is, after_append}
-use Rattle.runs.proofs.Reached.{reached_exactly, after_reached}
+use Rattle.runs.proofs.Reached.{after_reached}
 use Rattle.states.specs.State.{state_of, new_text, held_in, Left, is_left, read_state}
 use Rattle.states.specs.declared.TextState.{TextState}
 use Rattle.states.proofs.Theorems.{held_in_lem, made_left, read_left_state}
@@ -25,7 +25,7 @@ use Rattle.flowing.specs.Output.{as_read, broken, uncounted, counted, sum, whole
 use Rattle.flowing.proofs.Steps.{sum_append}
 use Rattle.running.specs.Calls.{passes_end, short_for, judge_setting, judge_piece, held_now, total_now, state_after, judged_piece, piece_next, judged_end, end_next}
 use Rattle.running.specs.Sessions.{Call, Course, answered_first, session}
-use Rattle.running.proofs.Laws.{past_bound}
+use Rattle.running.proofs.Laws.{past_bound, left_reached}
 
 -- a state as a text left it is read as it is
 module _ (h : Held) (total : ℕ) (short : total ≤ running_text) (r : is_reached h total ≡ true) where
@@ -173,8 +173,7 @@ module _ (left right : ℕ) (customer house table : List ℕ) where
       → is_left (piece_next state left right customer house table piece room) ≡ true
   answered_left state wide piece room e =
       let l = read_left_state state wide in
-      let h : held_now state ≡ l.held = ap held_in l.is ∙ held_in_lem l.held (total_now state) in
-      let r : is_reached (held_now state) (total_now state) ≡ true = rw h ((reached_exactly l.held (total_now state)).1 l.reached) in
+      let r = left_reached (read_state state) l in
       rw e
       (made_left (held_after (held_now state) piece) (total_now state + length piece) (answered_short state piece room e) (after_reached (held_now state) (total_now state) piece r))
 

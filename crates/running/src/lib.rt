@@ -1,7 +1,7 @@
 // Running text in pieces: the call that takes a piece, and the call that ends the text.
 #![tactic(auto)]
 
-ghost use Rattle.std.specs.Prelude.{[], ◌≡◌, true, length, take, ◌+◌, ◌*◌, ◌≤◌};
+ghost use Rattle.std.specs.Prelude.{[], ◌≡◌, true, length, ◌+◌, ◌*◌, ◌≤◌};
 ghost use Rattle.base.specs.Limits.{running_text, room_per_byte};
 ghost use Rattle.base.specs.Grounds.{Finds, says, first_of};
 ghost use Rattle.runs.specs.Reached.{can_be_held};
@@ -12,6 +12,7 @@ use base::Ground;
 use flowing::Flow;
 use hyphenation::Setting;
 use states::TextState;
+use writing::Writer;
 
 // What a call wrote: the length of the text, and the count of the words that it finished.
 #[derive(Clone, Copy)]
@@ -37,16 +38,15 @@ pub fn judge_setting(setting: &Setting) -> Result<(), Ground>
 }
 
 // Do n bytes take a text of this total past its limit?
+#[tactic(auto, unfolding(crate::specs::Calls::passes_end))]
 fn is_past(total: usize, n: usize) -> bool
     ensures { result ≡ passes_end total n }
 {
-    if base::RUNNING_TEXT < total {
-        return true;
-    }
-    base::RUNNING_TEXT - total < n
+    base::RUNNING_TEXT < total.saturating_add(n)
 }
 
 // The grounds of a piece of n bytes, where so many are held and the text has this total: 1, 8, 6, 9, 21, 14.
+#[tactic(auto, using(crate::proofs::Laws::past_bound))]
 pub fn judge_piece(
     setting: &Setting,
     total: usize,
@@ -82,39 +82,41 @@ fn flow_piece(s: TextState, setting: &Setting, piece: &[u8], room: &mut [u8]) ->
     requires { Left s × (s.total + length piece.now ≤ running_text) × (room_per_byte * (s.size + length piece.now) ≤ length room.old) }
     ensures { PiecesDone s setting.now.left setting.now.right setting.now.customer.now setting.now.house.now setting.now.table.now piece.now room.old result room.new }
 {
-    let mut held = s.held;
-    let start = Flow {
+    let held = s.held;
+    let mut flow = Flow {
+        held,
         size: s.size as usize,
         run: s.run,
-        at: 0,
         looks: 0,
     };
-    let end = flowing::take_bytes(setting, piece, &mut held, room, start);
-    rooms::clear_from(&mut held, end.size, base::HELD_LIMIT);
-    let state = TextState {
-        held: held,
-        size: end.size as u8,
-        run: end.run,
-        total: s.total + piece.len() as u32,
-    };
+    let mut out = Writer::new(room);
+    flow.take_bytes(setting, piece, &mut out);
+    let mut held = flow.held;
+    rooms::clear_from(&mut held, flow.size, base::HELD_LIMIT);
     Taken {
-        state: state,
+        state: TextState {
+            held,
+            size: flow.size as u8,
+            run: flow.run,
+            total: s.total + piece.len() as u32,
+        },
         answer: Ok(Written {
-            length: end.at,
-            looks: end.looks,
+            length: out.at,
+            looks: flow.looks,
         }),
     }
 }
 
-// The bytes held, of which the buffer has as many as the size says: finished.
-fn flow_end(held: &[u8], size: usize, setting: &Setting, room: &mut [u8]) -> Written
-    requires { (size ≤ length held.now) × (can_be_held (take size held.now) ≡ true) × (room_per_byte * size ≤ length room.old) }
-    ensures { EndsDone (take size held.now) setting.now.left setting.now.right setting.now.customer.now setting.now.house.now setting.now.table.now room.old (Ok result) room.new }
+// What is held, finished.
+fn flow_end(held: &[u8], setting: &Setting, room: &mut [u8]) -> Written
+    requires { (can_be_held held.now ≡ true) × (room_per_byte * length held.now ≤ length room.old) }
+    ensures { EndsDone held.now setting.now.left setting.now.right setting.now.customer.now setting.now.house.now setting.now.table.now room.old (Ok result) room.new }
 {
-    let shown = flowing::put_held(setting, &held[0..size], room, 0);
+    let mut out = Writer::new(room);
+    let looks = flowing::put_held(setting, held, &mut out);
     Written {
-        length: shown.end,
-        looks: shown.looks,
+        length: out.at,
+        looks,
     }
 }
 
@@ -125,7 +127,7 @@ pub fn take_piece(state: TextState, setting: &Setting, piece: &[u8], room: &mut 
     let s = states::read_state(state);
     if let Err(g) = judge_piece(setting, s.total as usize, s.size, piece.len(), room.len()) {
         return Taken {
-            state: state, // as it was given
+            state, // as it was given
             answer: Err(g),
         };
     }
@@ -139,13 +141,13 @@ pub fn end_text(state: TextState, setting: &Setting, room: &mut [u8]) -> Taken
     let s = states::read_state(state);
     if let Err(g) = judge_end(setting, s.size, room.len()) {
         return Taken {
-            state: state, // the text stays open
+            state, // the text stays open
             answer: Err(g),
         };
     }
     let held = s.held;
     Taken {
         state: states::new_text(),
-        answer: Ok(flow_end(&held, s.size as usize, setting, room)),
+        answer: Ok(flow_end(&held[..s.size as usize], setting, room)),
     }
 }

@@ -9,15 +9,17 @@ use native.Mathlib.Nat.{add-zero}
 use native.Mathlib.Omega.{arith}
 use borrow.Author.Tests.{lt-leb, le-leb, leb-true, eqb-true}
 use lib.Dec.{leb, eqb}
-use lib.ListN.{length, get_or, take, drop, replicate, length-append, length-replicate, take-append-drop, get_or-replicate, get_or-append}
-use lib.Seq.{get_or-append-add, take-suc, take_all}
+use lib.ListN.{length, get_or, take, drop, replicate, length-append, length-replicate, take-append-drop, get_or-replicate}
+use lib.Seq.{take-suc, take_all}
 use Rattle.base.specs.Limits.{word_limit}
 use Rattle.base.specs.Grounds.{Check}
 use Rattle.std.specs.Prelude.{Ok, Err}
 use Rattle.base.proofs.Lists.{never, both}
 use Rattle.words.specs.Symbols.{letter, small, capital, apostrophe}
 use Rattle.words.specs.Words.{judge_word, word_byte}
-use Rattle.words.proofs.Laws.{small_high, range_high, word_byte_lem}
+use Rattle.words.proofs.Laws.{word_byte_lem}
+use Rattle.std.proofs.lemmas.Bool.Decides.{nat_tests}
+use Rattle.std.proofs.lemmas.Grind.{common_steps}
 use Rattle.runs.specs.Text.{onward, Held, Holding, Gone, GoneMarked, unfinished, held_of}
 use Rattle.runs.specs.Held.{last_of, but_last, waits, joins, next, held_after}
 use Rattle.runs.specs.Reached.{Reached, is_fine, is_word, can_be_held, is_reached}
@@ -25,7 +27,7 @@ use Rattle.runs.proofs.Laws.{apostrophe_none, last_is, but_last_is, joins_letter
 use Rattle.runs.proofs.Kept.{held_is, after_append}
 use Rattle.runs.proofs.Words.{run_good, good_last, good_held}
 
-fine_is : (c : Check) → is_fine c ≡ true → c ≡ Ok tt
+pub fine_is : (c : Check) → is_fine c ≡ true → c ≡ Ok tt
 fine_is (Ok _) e = refl
 fine_is (Err g) e = never e
 
@@ -114,28 +116,11 @@ bytes_same : (n b : ℕ) → b < 256 → Bytes (replicate n b)
 bytes_same n b h i k = omega (arith, h, get_or-replicate n i b 0 (omega (arith, k, length-replicate {A = ℕ} n b)))
 
 bytes_append : (u v : List ℕ) → Bytes u → Bytes v → Bytes (u ++ v)
-bytes_append u v f g i k = go (dec_lt i (length u))
-  where
-    go : Dec (i < length u) → get_or (u ++ v) i 0 < 256
-    go (yes p) = omega (arith, get_or-append u v 0 i p, f i p)
-    go (no p) =
-        let j : i ≡ length u + (i - length u) = omega (arith, p) in
-        let e = ap (λ (x : ℕ). get_or (u ++ v) x 0) j ∙ get_or-append-add u v (i - length u) 0 in
-        omega (arith, e, g (i - length u) (omega (arith, p, k, length-append u v)))
-
-capital_high : (b : ℕ) → capital b ≡ true → b ≤ 90
-unfolding capital
-capital_high b e = range_high 65 90 b e
+bytes_append u v f g i k = grind (arith, common_steps, f, g)
 
 letter_byte : (b : ℕ) → word_byte b ≡ true → b < 256
-unfolding word_byte letter
-letter_byte b e = go (small b) refl (capital b) refl (eqb b apostrophe) refl e
-  where
-    go : (x : Bool) → small b ≡ x → (y : Bool) → capital b ≡ y → (z : Bool) → eqb b apostrophe ≡ z → ((x || y) || z) ≡ true → b < 256
-    go true p y q z r h = omega (arith, small_high b p)
-    go false p true q z r h = omega (arith, capital_high b q)
-    go false p false q true r h = omega (arith, eqb-true b apostrophe r)
-    go false p false q false r h = never h
+unfolding word_byte letter small capital
+letter_byte b e = grind (arith, nat_tests)
 
 bytes_word : (w : List ℕ) → judge_word word_limit w ≡ Ok tt → Bytes w
 bytes_word w e i k = letter_byte (get_or w i 0) (word_byte_lem word_limit w e i k)

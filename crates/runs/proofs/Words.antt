@@ -10,7 +10,7 @@ use lib.Dec.{eqb}
 use lib.ListN.{length, take, get_or-eq_default}
 use lib.Seq.{take-length, drop-length}
 use Rattle.base.specs.Limits.{word_limit}
-use Rattle.std.specs.Prelude.{Ok, Err}
+use Rattle.std.specs.Prelude.{Ok}
 use Rattle.base.proofs.Lists.{never}
 use Rattle.words.specs.Symbols.{letter, apostrophe}
 use Rattle.words.specs.Words.{starts_letter, is_between, with_apostrophes, leading, all_fit, judge_by, judge_word, MayStand}

@@ -1,5 +1,5 @@
 -- CR 6: "A state these calls couldn't leave is read as a new text's". What can be held, and after how many bytes.
-use Rattle.std.specs.Prelude.{ℕ, ◌+◌, ◌<◌, Bool, true, false, ◌&&◌, ◌||◌, List, [], ◌≡◌, leb, eqb, length, get_or, is_ok}
+use Rattle.std.specs.Prelude.{ℕ, ◌+◌, ◌<◌, Bool, ◌&&◌, ◌||◌, List, [], ◌≡◌, leb, eqb, length, get_or, is_ok}
 use Rattle.base.specs.Limits.{word_limit}
 use Rattle.base.specs.Grounds.{Check}
 use Rattle.words.specs.Words.{judge_word}

@@ -5,7 +5,7 @@ ghost use Rattle.std.specs.Prelude.{[], ◌≡◌, ◌≤◌, length, drop};
 ghost use Rattle.base.specs.Limits.{held_limit};
 ghost use Rattle.runs.specs.Text.{Holding};
 ghost use Rattle.runs.specs.Reached.{is_word, can_be_held, is_reached};
-ghost use Rattle.states.specs.Bytes.{head_size, state_size, total_of, of_bytes, state_bytes};
+ghost use Rattle.states.specs.Bytes.{state_size, of_bytes, state_bytes};
 ghost use Rattle.states.specs.State.{state_of, all_zero, is_gone, are_left, is_left, Reads};
 
 // How a run stands between two calls (specs/State.antt, run_of). Numbers and no enum, since C keeps the state as bytes and any byte may
@@ -32,6 +32,7 @@ pub struct TextState {
 }
 
 // A new text's.
+#[tactic(auto, unfolding(crate::specs::State::state_of, crate::specs::State::padded))]
 pub fn new_text() -> TextState
     ensures { result ≡ state_of (Holding []) 0 }
 {
@@ -58,46 +59,44 @@ fn is_word(bytes: &[u8]) -> bool
 }
 
 // Nothing, a word, or a word and an apostrophe behind it.
+#[tactic(auto, unfolding(runs::specs::Reached::can_be_held, runs::specs::Held::waits))]
 fn can_be_held(bytes: &[u8]) -> bool
     ensures { result ≡ can_be_held bytes.now }
 {
-    if bytes.len() == 0 {
+    if bytes.is_empty() {
         return true;
     }
     if is_word(bytes) {
         return true;
     }
-    let last = bytes.len() - 1;
-    if bytes[last] != words::APOSTROPHE {
-        return false;
+    match bytes {
+        [word @ .., words::APOSTROPHE] => is_word(word),
+        _ => false,
     }
-    is_word(&bytes[0..last])
 }
 
 // Could a text of so many bytes leave these bytes held?
+#[tactic(auto, unfolding(runs::specs::Reached::is_reached))]
 fn is_holding(bytes: &[u8], total: usize) -> bool
     ensures { result ≡ is_reached (Holding bytes.now) total }
 {
-    if !can_be_held(bytes) {
-        return false;
-    }
-    bytes.len() <= total
+    can_be_held(bytes) && bytes.len() <= total
 }
 
 // Could a text of so many bytes be in this run, which is let go?
+#[tactic(auto, unfolding(crate::specs::State::is_gone, runs::specs::Reached::is_reached))]
 fn is_gone(run: u8, total: usize) -> bool
     ensures { result ≡ is_gone run total }
 {
-    if run == GONE {
-        return base::WORD_LIMIT + 1 <= total;
+    match run {
+        GONE => base::WORD_LIMIT + 1 <= total,
+        GONE_MARKED => base::WORD_LIMIT + 2 <= total,
+        _ => false,
     }
-    if run == GONE_MARKED {
-        return base::WORD_LIMIT + 2 <= total;
-    }
-    false
 }
 
 // The parts of a state: could the calls have left it?
+#[tactic(auto, unfolding(crate::specs::State::are_left))]
 fn are_left(held: &[u8], size: usize, run: u8, total: usize) -> bool
     ensures { result ≡ are_left held.now size run total }
 {
@@ -111,7 +110,7 @@ fn are_left(held: &[u8], size: usize, run: u8, total: usize) -> bool
         return false;
     }
     if run == HOLDING {
-        return is_holding(&held[0..size], total);
+        return is_holding(&held[..size], total);
     }
     if size != 0 {
         return false; // a run that was let go holds nothing
@@ -120,6 +119,7 @@ fn are_left(held: &[u8], size: usize, run: u8, total: usize) -> bool
 }
 
 // Is this a state that the calls could have left? (That its array has the length it is declared with is a fact for the caller's proof.)
+#[tactic(auto, unfolding(crate::specs::State::is_left))]
 pub fn is_left(s: TextState) -> bool
     ensures test { result ≡ is_left s }
     ensures wide { length s.held ≡ held_limit }
@@ -138,36 +138,27 @@ pub fn read_state(s: TextState) -> TextState
     new_text()
 }
 
-// The total that a state's bytes tell, high byte first.
-fn read_total(bytes: &[u8]) -> u32
-    requires { head_size ≤ length bytes.now }
-    ensures { result ≡ total_of bytes.now }
-{
-    u32::from_be_bytes([bytes[2], bytes[3], bytes[4], bytes[5]])
-}
-
 // A state by its bytes. Where the two that are always 0 aren't, it is none that the calls could have left.
+#[tactic(auto, unfolding(crate::specs::Bytes::of_bytes, crate::specs::Bytes::total_of))]
 pub fn read_bytes(bytes: &[u8]) -> TextState
     requires { length bytes.now ≡ state_size }
     ensures { result ≡ of_bytes bytes.now }
 {
-    if bytes[6] != 0 {
+    let [size, run, high, second, third, low, 0, 0, kept @ ..] = bytes else {
         return new_text();
-    }
-    if bytes[7] != 0 {
-        return new_text(); // nor is this one ever set
-    }
+    };
     let mut held = [0u8; base::HELD_LIMIT];
-    held.copy_from_slice(&bytes[HEAD_SIZE..]);
+    held.copy_from_slice(kept);
     TextState {
         held,
-        size: bytes[0],
-        run: bytes[1],
-        total: read_total(bytes),
+        size: *size,
+        run: *run,
+        total: u32::from_be_bytes([*high, *second, *third, *low]),
     }
 }
 
 // A state's bytes.
+#[tactic(auto, unfolding(crate::specs::Bytes::state_bytes))]
 pub fn put_bytes(s: TextState, bytes: &mut [u8])
     requires { length bytes.old ≡ state_size }
     ensures { bytes.new ≡ state_bytes s }

@@ -1,4 +1,3 @@
-pub mod Going
 pub mod Laws
 pub mod Parts
 pub mod Decimal

@@ -1,14 +1,18 @@
 -- Parts that a writer puts one after the other.
-use Prim.Native.Nat.{ℕ, ◌+◌, ◌≤◌}
-use mathlib.Core.List.{List, [], ◌++◌}
+use Prim.Native.Nat.{ℕ, suc, ◌+◌, ◌≤◌}
+use mathlib.Core.List.{List, [], ◌∷◌, ◌++◌}
 use mathlib.Core.Path.{◌≡◌, refl, sym, ◌∙◌, ap}
+use native.Mathlib.Nat.{add-zero}
 use native.Mathlib.Omega.{arith}
-use lib.ListN.{length, length-append}
-use lib.Seq.{length-sets}
+use lib.ListN.{length, set, length-append}
+use lib.Seq.{sets, length-sets}
 use Rattle.writing.specs.Put.{Put}
 use Rattle.writing.specs.Written.{Fits, Writes}
 use Rattle.writing.specs.declared.Writer.{Writer}
-use Rattle.writing.proofs.Going.{sets_append}
+
+pub sets_append : (xs ys l : List ℕ) (i : ℕ) → sets l i (xs ++ ys) ≡ sets (sets l i xs) (i + length xs) ys
+sets_append [] ys l i = rw (add-zero i)
+sets_append (x ∷ xs) ys l i = let e : i + suc (length xs) ≡ suc i + length xs = omega arith in rw e (sets_append xs ys (set l i x) (suc i))
 
 -- other bytes that are equal
 pub fits_as : {bytes others : List ℕ} (w : Writer) → bytes ≡ others → Fits bytes w → Fits others w
@@ -75,7 +79,3 @@ module _ (x y : List ℕ) {whole rest : List ℕ} (e : rest ≡ x ++ y) {a b : W
 -- nothing is left
 pub go_end : {whole rest : List ℕ} {a b : Writer} → rest ≡ [] → Going whole a rest b → Writes whole a b
 go_end {b = b} e g = let n : length _ ≡ 0 = ap length e in g.whole_by b (written_as e (none_written b (omega (arith, g.fits, n))))
-
--- the last part ends it
-pub go_last : {whole rest : List ℕ} {a b c : Writer} → Going whole a rest b → Writes rest b c → Writes whole a c
-go_last {c = c} g p = g.whole_by c p

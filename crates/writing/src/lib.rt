@@ -2,7 +2,6 @@
 #![tactic(auto)]
 
 ghost use Rattle.std.specs.Prelude.{[], ◌∷◌, ◌+◌, ◌≤◌, ◌≡◌, length, take};
-ghost use Rattle.writing.specs.Put.{Put};
 ghost use Rattle.writing.specs.Written.{Fits, Writes};
 ghost use Rattle.writing.specs.Writing.{decimal, field, counted, letter_with, hyphenated};
 
@@ -109,34 +108,4 @@ impl<'a> Writer<'a> {
             self.put_letter(sign, *mark, *b);
         }
     }
-}
-
-// One byte.
-pub fn put_byte(b: u8, room: &mut [u8], at: usize) -> usize
-    requires { at + 1 ≤ length room.old }
-    ensures { Put (b ∷ []) at room.old result room.new }
-{
-    let mut w = Writer { room, at };
-    w.put_byte(b);
-    w.at
-}
-
-// Bytes as they stand.
-pub fn put_text(text: &[u8], room: &mut [u8], at: usize) -> usize
-    requires { at + length text.now ≤ length room.old }
-    ensures { Put text.now at room.old result room.new }
-{
-    let mut w = Writer { room, at };
-    w.put_text(text);
-    w.at
-}
-
-// A word with its breaks, each as a sign before the letter.
-pub fn put_hyphenated(sign: &[u8], marks: &[u8], word: &[u8], room: &mut [u8], at: usize) -> usize
-    requires { (length word.now ≤ length marks.now) × (at + length (hyphenated sign.now marks.now word.now) ≤ length room.old) }
-    ensures { Put (hyphenated sign.now marks.now word.now) at room.old result room.new }
-{
-    let mut w = Writer { room, at };
-    w.put_hyphenated(sign, marks, word);
-    w.at
 }

@@ -1,7 +1,6 @@
-use mathlib.Core.Path.{sym, ◌∙◌}
-use native.Mathlib.Omega.{arith}
+use mathlib.Core.Path.{◌∙◌}
 use Rattle.base.proofs.Grounds.{said_by, judged_by, handed_on}
-use Rattle.running.proofs.Laws.{past_bound, piece_setting, piece_past, piece_room_lem, piece_fine}
+use Rattle.running.proofs.Laws.{piece_setting, piece_past, piece_room_lem, piece_fine}
 use Rattle.running.proofs.Order.{setting_ordered, piece_ordered}
 use Rattle.running.proofs.judge_piece.Goals as goal
 
@@ -10,12 +9,6 @@ returns-in_err-judge_setting c = said_by (piece_ordered _ _ _ _ _ _ _ _ _) (hand
 
 pub returns-then-is_past : goal.returns-then-is_past
 returns-then-is_past c = said_by (piece_ordered _ _ _ _ _ _ _ _ _) (piece_past _ _ _ _ _ _ _ _ _ (judged_by (setting_ordered _ _ _ _ _) c.judge_setting.ensures) c.in_ok-judge_setting.was c.is_past.ensures c.if-is_past.true)
-
-pub overflow_add-held : goal.overflow_add-held
-overflow_add-held c = omega (arith, past_bound c.args.total c.args.n (sym c.is_past.ensures ∙ c.if-is_past.false))
-
-pub overflow_mul-held : goal.overflow_mul-held
-overflow_mul-held c = omega (arith, past_bound c.args.total c.args.n (sym c.is_past.ensures ∙ c.if-is_past.false))
 
 pub returns-then-is_short : goal.returns-then-is_short
 returns-then-is_short c = said_by (piece_ordered _ _ _ _ _ _ _ _ _) (piece_room_lem _ _ _ _ _ _ _ _ _ (judged_by (setting_ordered _ _ _ _ _) c.judge_setting.ensures) c.in_ok-judge_setting.was c.is_past.ensures c.if-is_past.false c.is_short.ensures c.if-is_short.true)
