@@ -1,7 +1,7 @@
 // Numbers and words put into lent memory, one part behind the other.
 #![tactic(auto)]
 
-ghost use Rattle.std.specs.Prelude.{[], ◌∷◌, ◌+◌, ◌≤◌, ◌≡◌, length, take};
+ghost use Rattle.std.specs.Prelude.{[], ◌∷◌, ◌≤◌, ◌≡◌, length, take};
 ghost use Rattle.writing.specs.Written.{Fits, Writes};
 ghost use Rattle.writing.specs.Writing.{decimal, field, counted, letter_with, hyphenated};
 

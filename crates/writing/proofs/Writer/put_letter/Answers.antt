@@ -1,5 +1,5 @@
 use Rattle.writing.proofs.Laws.{letter_marked}
-use Rattle.writing.proofs.Parts.{second_part, both_parts}
+use Rattle.writing.proofs.Parts.{both_parts}
 use Rattle.writing.proofs.Writer.put_letter.Goals as goal
 
 pub returns : goal.returns
