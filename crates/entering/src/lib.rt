@@ -10,7 +10,8 @@ ghost use Rattle.entering.specs.Post.{as_entries, count_of};
 
 use table::Entry;
 
-// How many entries there are now, and the number of the one made or found last.
+// How many entries there are now, and the number of the one made or found last. That the count is within its limit is a clause and no ghost
+// field: it would be proved in as many places, wherever one is made.
 #[derive(Clone, Copy)]
 pub struct Made {
     pub count: u16,

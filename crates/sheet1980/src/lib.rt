@@ -1,4 +1,5 @@
-// The sheet that a word is written on for the 1980 machine. CR 4.
+// The sheet that a word is written on for the 1980 machine. CR 4. It is lent as bytes, with the number of its letters beside it where a phase
+// asks for that: the definitions `phase2`, `phase3` and `phase4` have both.
 #![tactic(auto)]
 
 ghost use Rattle.std.specs.Prelude.{◌≡◌, ◌+◌, length};

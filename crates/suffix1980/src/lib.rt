@@ -105,7 +105,8 @@ fn branch(at: Row, matched: bool, truex: u16, falsex: u16) -> Turn
     })
 }
 
-// finale at a re-entry.
+// finale at a re-entry. It may be a place ahead of i, so that i has a bound here and in what calls this: a type of places would not be closed
+// under i + 2, and would ask as much of whoever makes one.
 #[tactic(auto, unfolding(crate::specs::Suffixes::final_at))]
 fn final_at(i: usize, pc: usize, finale: usize) -> usize
     requires { i ≤ place_bound }

@@ -55,7 +55,8 @@ fn apply_entry(
 }
 
 // The chain of entries from number k on. The number falls at each call, so a circle ends. The entries are lent by reference, and
-// the room is an array: both are then one address, and the call, the last thing done, is compiled to a jump that takes no stack.
+// the room is an array: both are then one address, and the call, the last thing done, is compiled to a jump that takes no stack. For the same
+// reason n, m and end stay three numbers: a struct of them would go by a copy on the stack.
 fn apply_chain(
     entries: &&[u8],
     k: u16,
