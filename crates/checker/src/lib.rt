@@ -5,8 +5,6 @@ ghost use Rattle.std.specs.Prelude.{◌≡◌, [], ◌≤◌, ◌<◌, length};
 ghost use Rattle.base.specs.Grounds.{Finds, says, first_of};
 ghost use Rattle.base.specs.Limits.{pattern_limit};
 ghost use Rattle.words.specs.Symbols.{symbols_of};
-ghost use Rattle.lists.specs.Lists.{judge_lines};
-ghost use Rattle.lists.specs.declared.Form.{Form};
 ghost use Rattle.liang.specs.Patterns.{levels_from, patterns_of};
 ghost use Rattle.table.specs.Table.{cell_size};
 ghost use Rattle.trie.specs.Sound.{sound};
@@ -14,6 +12,7 @@ ghost use Rattle.rightness.specs.Test.{kinds_from, kinds_test, exact_test, none_
 ghost use Rattle.checker.specs.Post.{same_levels};
 
 use base::Ground;
+use lists::PatternList;
 use rightness::{Beside, Node};
 use table::{Cell, Entry};
 
@@ -187,15 +186,14 @@ fn is_followed(cells: &[u8], entries: &[u8], root: u16, own: &[u8], beside: Besi
     is_passed_over(cells, beside, node, m, 0)
 }
 
-// Are a table's paths from a root right for a good text? Every line is followed through the table; behind the last one, the root
+// Are a table's paths from a root right for a good list? Every line is followed through the table; behind the last one, the root
 // goes on with no further symbol.
-fn is_right(text: &[u8], cells: &[u8], entries: &[u8], root: u16) -> bool
-    requires { judge_lines Form.Patterns text.now ≡ Ok tt }
-    ensures { result ≡ paths_test (patterns_of text.now) cells.now entries.now root }
+fn is_right(list: &PatternList, cells: &[u8], entries: &[u8], root: u16) -> bool
+    ensures { result ≡ paths_test (patterns_of list.now.text.now) cells.now entries.now root }
 {
     let mut known: usize = 0;
     let mut low: u8 = 0;
-    let mut lines = text.split_inclusive(|b| *b == words::LINE_FEED);
+    let mut lines = list.text.split_inclusive(|b| *b == words::LINE_FEED);
     let mut next = lines.next();
     while let Some(own) = next {
         next = lines.next();
@@ -234,7 +232,7 @@ pub fn check(text: &[u8], table: &[u8]) -> Result<(), Ground>
     ) {
         return Err(Ground::NotRight); // a record of another kind
     }
-    if !is_right(text, cells, entries, table::ROOT_BASE) {
+    if !is_right(&PatternList { text }, cells, entries, table::ROOT_BASE) {
         return Err(Ground::NotRight); // other paths than the list's
     }
     Ok(())

@@ -1,12 +1,12 @@
 // Whole text lists: the first bad line, and the grounds 8, 7 and 6.
 #![tactic(auto)]
 
-ghost use Rattle.std.specs.Prelude.{[], ◌≡◌, ◌+◌, drop};
+ghost use Rattle.std.specs.Prelude.{Ok, [], ◌≡◌, ◌+◌, drop};
 ghost use Rattle.base.specs.Grounds.{Finds, says, first_of};
 ghost use Rattle.lines.specs.Lines.{line_length, first_line};
 ghost use Rattle.lines.specs.Ends.{end_if};
 ghost use Rattle.lists.specs.declared.Form.{Form};
-ghost use Rattle.lists.specs.Lists.{good_line, judge_lines, size_grounds, bad_pattern, bad_exception, pattern_grounds, exception_grounds, list_grounds};
+ghost use Rattle.lists.specs.Lists.{good_line, judge_lines, size_grounds, bad_pattern, bad_exception, pattern_grounds, exception_grounds, list_grounds, judge_patterns};
 
 use base::Ground;
 
@@ -15,6 +15,14 @@ use base::Ground;
 pub enum Form {
     Patterns,
     Exceptions,
+}
+
+// A pattern list that was judged: within its size, and without a bad line. Whoever makes one has judged it.
+#[derive(Clone, Copy)]
+pub struct PatternList<'a> {
+    pub text: &'a [u8],
+
+    pub ghost judged: { judge_patterns text.now ≡ Ok tt },
 }
 
 // Where the line that begins at a place ends, if it is good as it stands.

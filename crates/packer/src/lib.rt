@@ -5,7 +5,6 @@ ghost use Rattle.std.specs.Prelude.{◌≡◌, ◌+◌, ◌*◌, ◌≤◌, ◌<
 ghost use Rattle.base.specs.Limits.{cell_limit, entry_limit, pack_room};
 ghost use Rattle.rooms.specs.Rooms.{filled};
 ghost use Rattle.words.specs.Symbols.{symbols_of};
-ghost use Rattle.lists.specs.Lists.{judge_patterns};
 ghost use Rattle.liang.specs.Patterns.{patterns_of};
 ghost use Rattle.table.specs.Table.{head_size, cell_size, cell_room, entry_room, put_number};
 ghost use Rattle.fit.specs.Cells.{cell_of, used_from};
@@ -16,6 +15,7 @@ ghost use Rattle.packer.specs.Pack.{Lays, Packs};
 ghost use Rattle.packer.specs.Post.{as_outputs, entries_in, table_of, as_fit, Bounded};
 
 use base::Ground;
+use lists::PatternList;
 
 // How many cells and entries a layout has.
 #[derive(Clone, Copy)]
@@ -62,7 +62,7 @@ fn put_output(cells: &mut [u8; table::CELL_ROOM], root: u16, line: &[u8], m: u8,
     table::put_number(cells, table::CELL_SIZE * cell + 4, output);
 }
 
-// The outputs of every pattern of a good text, walked from the root's base, and the entries behind them. The count says how many
+// The outputs of every pattern of a good list, walked from the root's base, and the entries behind them. The count says how many
 // entries are there before; nothing where there are too many.
 #[tactic(auto, using(crate::proofs::Laws::shaped_start, crate::proofs::Laws::outputs_start, crate::proofs::Laws::outputs_end))]
 fn put_outputs(
@@ -70,14 +70,14 @@ fn put_outputs(
     made: &mut [u8; table::ENTRY_ROOM],
     count: u16,
     root: u16,
-    text: &[u8],
+    list: &PatternList,
 ) -> Option<u16>
-    requires { (count ≤ entry_limit) × (judge_patterns text.now ≡ Ok tt) }
-    ensures count_value { outputs_of root (patterns_of text.now) (fit.Out cells.old made.old count) ≡ as_outputs cells.new made.new result }
+    requires { count ≤ entry_limit }
+    ensures count_value { outputs_of root (patterns_of list.now.text.now) (fit.Out cells.old made.old count) ≡ as_outputs cells.new made.new result }
     ensures result_bound { entries_in result ≤ entry_limit }
 {
     let mut entries = count;
-    for line in text.split_inclusive(|b| *b == words::LINE_FEED) {
+    for line in list.text.split_inclusive(|b| *b == words::LINE_FEED) {
         let m = patterns::symbol_count(line) as u8;
         let step = entering::enter_levels(made, entries, line, m)?;
         put_output(cells, root, line, m, step.last);
@@ -86,22 +86,22 @@ fn put_outputs(
     Some(entries)
 }
 
-// The layout of a good text, in cells and entries that are zero before; nothing where it has too many of either.
+// The layout of a good list, in cells and entries that are zero before; nothing where it has too many of either.
 fn fill(
     cells: &mut [u8; table::CELL_ROOM],
     made: &mut [u8; table::ENTRY_ROOM],
-    text: &[u8],
+    list: &PatternList,
 ) -> Option<Laid>
-    requires { (cells.old ≡ replicate cell_room 0) × (made.old ≡ empty_entries) × (judge_patterns text.now ≡ Ok tt) }
-    ensures text_value { first_fit (patterns_of text.now) ≡ as_fit cells.new made.new result }
+    requires { (cells.old ≡ replicate cell_room 0) × (made.old ≡ empty_entries) }
+    ensures text_value { first_fit (patterns_of list.now.text.now) ≡ as_fit cells.new made.new result }
     ensures bounded { Bounded result }
 {
     let mut taken = [0u8; base::CELL_LIMIT];
-    if !placing::place_all(cells, &mut taken, table::ROOT_BASE, text) {
+    if !placing::place_all(cells, &mut taken, table::ROOT_BASE, list.text) {
         return None;
     }
     let count = used_cells(cells);
-    let entries = put_outputs(cells, made, 0, table::ROOT_BASE, text)?;
+    let entries = put_outputs(cells, made, 0, table::ROOT_BASE, list)?;
     put_kinds(cells, count);
     Some(Laid {
         cells: count as u16,
@@ -110,13 +110,17 @@ fn fill(
 }
 
 // The same in cells that are a part of a room.
-fn fill_part(cells: &mut [u8], made: &mut [u8; table::ENTRY_ROOM], text: &[u8]) -> Option<Laid>
-    requires { (cells.old ≡ replicate cell_room 0) × (made.old ≡ empty_entries) × (judge_patterns text.now ≡ Ok tt) }
-    ensures text_value { first_fit (patterns_of text.now) ≡ as_fit cells.new made.new result }
+fn fill_part(
+    cells: &mut [u8],
+    made: &mut [u8; table::ENTRY_ROOM],
+    list: &PatternList,
+) -> Option<Laid>
+    requires { (cells.old ≡ replicate cell_room 0) × (made.old ≡ empty_entries) }
+    ensures text_value { first_fit (patterns_of list.now.text.now) ≡ as_fit cells.new made.new result }
     ensures bounded { Bounded result }
 {
     let cells = cells.as_mut_array().unwrap();
-    fill(cells, made, text)
+    fill(cells, made, list)
 }
 
 // The entries behind the cells, zeros behind the entries, and the head: the table's length.
@@ -133,17 +137,17 @@ fn finish(room: &mut [u8], made: &[u8; table::ENTRY_ROOM], cells: u16, entries: 
     size
 }
 
-// The first-fit table of a good text, in a room that is zero where a table may stand.
+// The first-fit table of a good list, in a room that is zero where a table may stand.
 #[tactic(auto, using(crate::proofs::Laws::filled_length, crate::proofs::Laws::filled_holds))]
-fn lay(room: &mut [u8], text: &[u8]) -> Result<usize, Ground>
-    requires { (pack_room ≤ length room.old) × (take pack_room room.old ≡ replicate pack_room 0) × (judge_patterns text.now ≡ Ok tt) }
-    ensures { Lays text.now room.old result room.new }
+fn lay(room: &mut [u8], list: &PatternList) -> Result<usize, Ground>
+    requires { (pack_room ≤ length room.old) × (take pack_room room.old ≡ replicate pack_room 0) }
+    ensures { Lays list.now.text.now room.old result room.new }
 {
     let mut made = [0u8; table::ENTRY_ROOM];
     let filled = fill_part(
         &mut room[table::HEAD_SIZE..table::HEAD_SIZE + table::CELL_ROOM],
         &mut made,
-        text,
+        list,
     );
     let Some(Laid { cells, entries }) = filled else {
         rooms::clear_from(room, 0, base::PACK_ROOM);
@@ -162,5 +166,5 @@ pub fn pack(text: &[u8], room: &mut [u8]) -> Result<usize, Ground>
     }
     lists::judge_patterns(text)?;
     rooms::clear_from(room, 0, base::PACK_ROOM);
-    lay(room, text)
+    lay(room, &PatternList { text })
 }

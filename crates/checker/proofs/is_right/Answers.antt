@@ -1,9 +1,10 @@
 use Rattle.std.proofs.Common.{rules, tests, sym, refl}
+use Rattle.lists.proofs.Theorems.{patterns_good}
 use Rattle.checker.proofs.Laws.{ahead_next, ahead_parts, lined_start, fewer, line_short, lined_wrong, lined_on, lined_done}
 use Rattle.checker.proofs.is_right.Goals as goal
 
 pub loop-next-init : goal.loop-next-init
-loop-next-init c = lined_start _ _ _ _ _ _ (search rules) (ahead_next _ _ _ _ _ _ c.next-next.ensures.steps (λ b r q k. search (rules, tests))) c.requires
+loop-next-init c = lined_start _ _ _ _ _ _ (search rules) (ahead_next _ _ _ _ _ _ c.next-next.ensures.steps (λ b r q k. search (rules, tests))) (patterns_good _ c.args.list.now.judged)
 
 pub is_followed-requires : goal.is_followed-requires
 is_followed-requires c = line_short _ _ _ _ _ _ _ _ _ _ c.in-Some.is (ahead_next _ _ _ _ _ _ c.next-next-in-Some.ensures.steps (λ b r q k. search (rules, tests))) c.loop-next.invariant

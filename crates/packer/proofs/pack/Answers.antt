@@ -19,7 +19,10 @@ pub clear_from-requires : goal.clear_from-requires
 clear_from-requires c = (search rules, long_enough pack_room _ c.is_short.ensures c.if-is_short.false)
 
 pub lay-requires : goal.lay-requires
-lay-requires c = (subst (λ n. pack_room ≤ n) (sym c.clear_from.auto.room) (long_enough pack_room _ c.is_short.ensures c.if-is_short.false), cleared_start c.args.text.now _ (long_enough pack_room _ c.is_short.ensures c.if-is_short.false) c.clear_from.ensures, sym (judged_by (patterns_ordered _) c.judge_patterns.ensures) ∙ c.in_ok-judge_patterns.was)
+lay-requires c = (subst (λ n. pack_room ≤ n) (sym c.clear_from.auto.room) (long_enough pack_room _ c.is_short.ensures c.if-is_short.false), cleared_start c.args.text.now _ (long_enough pack_room _ c.is_short.ensures c.if-is_short.false) c.clear_from.ensures)
+
+pub invariant_of-lay : goal.invariant_of-lay
+invariant_of-lay c = record { judged = sym (judged_by (patterns_ordered _) c.judge_patterns.ensures) ∙ c.in_ok-judge_patterns.was }
 
 pub returns : goal.returns
 returns c = promised _ _ (pack_laid _ _ (long_enough pack_room _ c.is_short.ensures c.if-is_short.false) c.clear_from.ensures (sym (judged_by (patterns_ordered _) c.judge_patterns.ensures) ∙ c.in_ok-judge_patterns.was) c.lay.ensures)

@@ -11,4 +11,4 @@ use Rattle.packer.proofs.put_outputs.Given as goal
 
 abbrev pub invariant-loop-line : goal.invariant-loop-line
 invariant-loop-line l =
-    (l.entries ≤ entry_limit) × AllShaped (patterns_of (split_inclusive_rest l.line-iterator)) × (outputs_of l.root (patterns_of l.text) (fit.Out l.initial.cells l.initial.made l.count) ≡ outputs_of l.root (patterns_of (split_inclusive_rest l.line-iterator)) (fit.Out l.cells l.made l.entries))
+    (l.entries ≤ entry_limit) × AllShaped (patterns_of (split_inclusive_rest l.line-iterator)) × (outputs_of l.root (patterns_of l.list.text.now) (fit.Out l.initial.cells l.initial.made l.count) ≡ outputs_of l.root (patterns_of (split_inclusive_rest l.line-iterator)) (fit.Out l.cells l.made l.entries))
