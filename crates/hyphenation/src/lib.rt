@@ -85,8 +85,7 @@ pub fn judge_margins(left: usize, right: usize) -> Result<(), Ground>
 pub fn judge_levels(word: &[u8], table: &[u8], size: usize) -> Result<(), Ground>
     ensures { says result ≡ first_of (Finds []) (levels_grounds word.now table.now size) }
 {
-    judge_room(size)?;
-    words::judge_word(word, base::WORD_LIMIT)?;
+    judge_word_alone(word, size)?;
     table::judge_table(table)
 }
 
