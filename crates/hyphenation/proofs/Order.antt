@@ -3,16 +3,18 @@
 use Prim.Native.Nat.{ℕ}
 use mathlib.Core.Bool.{◌||◌}
 use mathlib.Core.List.{List, [], ◌∷◌}
-use mathlib.Core.Path.{◌≡◌, sym, ◌∙◌, ap}
+use mathlib.Core.Path.{◌≡◌, refl, sym, ◌∙◌, ap}
 use Rattle.base.specs.Limits.{word_limit, room_size}
-use Rattle.base.specs.Grounds.{Said, Row, Check}
+use Rattle.base.specs.Grounds.{Said, Row, first, Check}
 use Rattle.std.specs.Prelude.{Ok, Err}
 use Rattle.base.specs.declared.Ground.TheVariants.{Margin, RoomShort}
 use Rattle.base.proofs.Grounds.{Ordered, ordered_first, ordered_if, said_found, said_refused_lem, told_once, refuses_once, no_refusal}
 use Rattle.rooms.specs.Rooms.{is_short, nonzero}
+use Rattle.words.specs.Words.{judge_word}
 use Rattle.words.proofs.Order.{word_ordered}
 use Rattle.lists.proofs.Order.{lists_ordered}
 use Rattle.liang.specs.Breaks.{bad_margin}
+use Rattle.table.specs.Table.{judge_table}
 use Rattle.table.proofs.Order.{table_ordered}
 use Rattle.hyphenation.specs.Calls.{room_grounds, margin_grounds, levels_grounds, hyphenate_grounds, word_alone_grounds, answer_said, found_or, room_left, Answers, judge_room, judge_margins, judge_levels, judge_hyphenate, judge_word_alone, answer, room_after, Answered, Answer}
 
@@ -40,6 +42,15 @@ hyphenate_ordered left right word customer house table size =
 pub word_alone_ordered : (word : List ℕ) (size : ℕ) → Ordered (judge_word_alone word size) (word_alone_grounds word size)
 unfolding judge_word_alone word_alone_grounds
 word_alone_ordered word size = ordered_first (room_ordered size) (word_ordered word_limit word)
+
+-- room and word first, as for a word alone, and then the table
+pub levels_after_word : (word table : List ℕ) (size : ℕ) → judge_levels word table size ≡ first (judge_word_alone word size) (judge_table table)
+unfolding judge_levels judge_word_alone
+levels_after_word word table size = go (judge_room size)
+  where
+    go : (a : Check) → first a (first (judge_word word_limit word) (judge_table table)) ≡ first (first a (judge_word word_limit word)) (judge_table table)
+    go (Ok _) = refl
+    go (Err g) = refl
 
 -- no two answers say the same
 answer_once : (r s : Answer) → answer_said r ≡ answer_said s → r ≡ s

@@ -85,8 +85,7 @@ pub fn judge_margins(left: usize, right: usize) -> Result<(), Ground>
 pub fn judge_levels(word: &[u8], table: &[u8], size: usize) -> Result<(), Ground>
     ensures { says result ≡ first_of (Finds []) (levels_grounds word.now table.now size) }
 {
-    judge_room(size)?;
-    words::judge_word(word, base::WORD_LIMIT)?;
+    judge_word_alone(word, size)?;
     table::judge_table(table)
 }
 
@@ -109,7 +108,8 @@ pub fn judge_hyphenate(setting: &Setting, word: &[u8], size: usize) -> Result<()
     table::judge_table(setting.table)
 }
 
-// Those hyphens of an exception line that count, put into the room.
+// Those hyphens of an exception line that count, put into the room. The gap counts the bytes that aren't hyphens: it is no turn's number, so
+// that no iterator has it. A mark is a byte and no bool, here and below, since the room is C's and any byte of it but 0 is a break.
 #[tactic(auto, using(crate::proofs::Laws::mark_outside, crate::proofs::Laws::mark_far, crate::proofs::Laws::mark_end))]
 fn mark_line(margins: Margins, line: &[u8], room: &mut [u8; base::ROOM_SIZE])
     ensures { room.new ≡ mark_hyphens (in_margins margins.left margins.right margins.letters) 0 line.now room.old }
@@ -140,6 +140,8 @@ fn put_breaks(margins: Margins, levels: &[u8; base::ROOM_SIZE], room: &mut [u8; 
         return;
     }
     let last = margins.letters - margins.right;
+    // Where the margins meet no gap is left, and the range is empty: as two zipped parts this would ask that first, since a part whose
+    // end lies before its start is an error.
     for i in margins.left..last + 1 {
         room[i] = levels[i] % 2;
     }
@@ -199,6 +201,9 @@ fn find_breaks(setting: &Setting, word: &Word, room: &mut [u8; base::ROOM_SIZE])
     let marks = rooms::count_marks(&room[..], base::ROOM_SIZE);
     Found { marks, looks }
 }
+
+// Three calls. They differ in what they judge and in what they then find, and share the lines that make an array of C's room: one function of
+// these would take two closures, and its promise what each finds, which is longer than the lines. No judged room is too short for the array.
 
 // The levels call.
 pub fn levels(word: &[u8], table: &[u8], room: &mut [u8]) -> Result<Found, Ground>

@@ -45,7 +45,8 @@ fn count_block(block: &[u8]) -> usize
     count as usize
 }
 
-// How many of the first bytes of a room aren't 0.
+// How many of the first bytes of a room aren't 0. As `.map(count_block).sum()` it was tried and not proved: what is left then is said of every
+// run of the mapped chunks, that their sum fits and what it is, where the loop has one law a turn.
 #[tactic(auto, using(crate::proofs::Laws::nonzero_few, crate::proofs::Laws::nonzero_none))]
 pub fn count_marks(room: &[u8], width: usize) -> usize
     requires { width ≤ length room.now }

@@ -8,7 +8,9 @@ ghost use Rattle.table.specs.Table.{head_size, cell_size, number_at, put_number,
 
 use base::Ground;
 
-// The records of a table as document 01 lays them out, each with its byte of kind. specs/Table.antt has the same names.
+// The records of a table as document 01 lays them out, each with its byte of kind. specs/Table.antt has the same names. The kinds are numbers and
+// no enum: they are bytes of the format, each compared with one of its own and never told apart. The numbers within a record (`at + 2`) are
+// the places of its fields in document 01; each is written at one place that reads it.
 pub const HEAD_KIND: u8 = 1;
 
 pub const CELL_KIND: u8 = 2;
@@ -54,7 +56,7 @@ pub struct Entry {
     pub next: u16,
 }
 
-// A number of two bytes of which both are there.
+// A number of two bytes of which both are there: a look and an entry have judged that, and ask no more (`number_at` asks at each byte).
 #[tactic(auto, unfolding(crate::specs::Table::number_at))]
 fn number_in(bytes: &[u8], at: usize) -> u16
     requires { at + 1 < length bytes.now }
@@ -126,7 +128,7 @@ pub fn put_number(bytes: &mut [u8], at: usize, n: u16)
     }
 }
 
-// How many cells a table's head tells.
+// How many cells a table's head tells. The two counts are two names of the format for `number_at`, which is all that they would share.
 #[tactic(auto, unfolding(crate::specs::Table::cell_count))]
 pub fn cell_count(table: &[u8]) -> u16
     ensures { result ≡ cell_count table.now }
@@ -142,7 +144,8 @@ pub fn entry_count(table: &[u8]) -> u16
     number_at(table, 4)
 }
 
-// The bytes of so many cells from a start on, as far as they are there.
+// The bytes of so many cells from a start on, as far as they are there. One cut could give these and the bytes behind, by `split_at`; but where
+// not all cells are there the promise has the second part at the table's beginning (`behind`), and its caller would have to move it there.
 #[tactic(auto, using(crate::proofs::Laws::cells_none, crate::proofs::Laws::cells_all, crate::proofs::Laws::cells_part, crate::proofs::Laws::cells_short, crate::proofs::Laws::cells_behind))]
 pub fn cells_from(table: &[u8], start: usize, count: u16) -> &[u8]
     ensures bytes { result.now ≡ cells_from start count table.now }

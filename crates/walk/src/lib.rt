@@ -98,7 +98,8 @@ fn walk_row(trie: &Trie, row: &[u8], n: usize, room: &mut [u8; base::ROOM_SIZE])
         let mut base = root;
         let mut m: usize = 0;
         let mut end = place;
-        // The walk has four ends, and none of them is a number of turns.
+        // It has four ends, and two of them are numbers of turns. As a `for` over `row[place..].iter().take(base::PATTERN_LIMIT)`, or over
+        // the range of m, with the looks counted in the turn, the walk took 21 % and 13 % more instructions (callgrind, a transcript in Rust).
         let walked = 'walk: loop {
             let symbol = row[end];
             let Some(Cell { link, output }) = table::look_at(cells, base, symbol) else {
@@ -123,7 +124,8 @@ fn walk_row(trie: &Trie, row: &[u8], n: usize, room: &mut [u8; base::ROOM_SIZE])
     looks
 }
 
-// The row of a judged word: its symbols between two edges.
+// The row of a judged word: its symbols between two edges. The edges have their places by number, and so have the symbols: zipped with
+// `row[1..].iter_mut()` they would need no number, but a second account of which bytes of the row are written.
 fn fill_row(word: &Word, row: &mut [u8])
     requires { length word.now.bytes.now + 2 ≤ length row.old }
     ensures { take (length word.now.bytes.now + 2) row.new ≡ row_of word.now.bytes.now }
