@@ -4,15 +4,13 @@
 
 mod status;
 
-ghost use Rattle.std.specs.Prelude.{IfOk, IfSome};
 ghost use Rattle.io.specs.Counts.{IsPrefixLen};
 
 use paths::{NO_TEXT, PATH_MAX};
-use status::Status;
 use std::fs;
-use std::fs::{File, OpenOptions, Permissions};
+use std::fs::{File, Metadata, OpenOptions, Permissions};
 use std::io::{Error, ErrorKind, Result, Write};
-use std::os::unix::fs::{PermissionsExt, fchown};
+use std::os::unix::fs::{MetadataExt, PermissionsExt, fchown};
 use std::random::RandomSource;
 
 // The bytes of a fresh name: 11 that say whose file it is where a killed run left it, and 8 letters, which another run has only by
@@ -22,28 +20,47 @@ const NAME_SIZE: usize = 19;
 // More links than any path goes through.
 const LINK_LIMIT: usize = 64;
 
-// The kind of a file in its mode, and a regular file's.
-const KINDS: u32 = 0o170000;
-
-const REGULAR: u32 = 0o100000;
-
 // The rights of a file are what its mode leaves when divided by this: nine bits.
 const RIGHTS: u32 = 512;
 
-// The system's numbers for what isn't allowed, and for what isn't there.
+// The system's number for what isn't allowed. A number and no kind, which is no plainer: number 13 is `PermissionDenied` too, and isn't
+// passed over.
 const NOT_PERMITTED: i32 = 1;
 
-const NOT_FOUND: i32 = 2;
+// A path in a room of its own: its first bytes. Where a name doesn't fit, the path is the whole room, which no path of the system fills.
+// An array and a size, since a project without a heap has no `PathBuf`.
+#[derive(Clone, Copy)]
+struct Path {
+    bytes: [u8; PATH_MAX],
+    size: usize,
 
-fn is_regular(file: Status) -> bool {
-    file.mode & KINDS == REGULAR
+    ghost within: { IsPrefixLen size bytes },
+}
+
+impl Path {
+    fn new(name: &[u8]) -> Path {
+        let mut bytes = [0u8; PATH_MAX];
+        let size = paths::put_name(name, &mut bytes, 0);
+        Path { bytes, size }
+    }
+
+    // A name in the folder of a path.
+    fn beside(path: &[u8], name: &[u8]) -> Path {
+        let mut bytes = [0u8; PATH_MAX];
+        let size = paths::put_beside(path, name, &mut bytes);
+        Path { bytes, size }
+    }
+
+    fn as_bytes(&self) -> &[u8] {
+        &self.bytes[..self.size]
+    }
 }
 
 // Do two names stand for one file?
 pub fn is_same(rt: &HostRuntime, a: &[u8], b: &[u8]) -> bool {
     match (status::status_of(rt, a), status::status_of(rt, b)) {
         (Some(first), Some(second)) => {
-            first.device == second.device && first.number == second.number
+            first.dev() == second.dev() && first.ino() == second.ino()
         }
         _ => false,
     }
@@ -65,30 +82,30 @@ fn check_writable(rt: &HostRuntime, path: &[u8]) -> Result<()> {
 }
 
 // The new file is read and written by whom the old one was. Another's file can't be given back to its owner by just anyone.
-fn keep_rights(file: &File, old: Option<Status>) -> Result<()> {
+fn keep_rights(file: &File, old: Option<&Metadata>) -> Result<()> {
     let Some(old) = old else {
         return Ok(());
     };
-    if let Err(e) = fchown(file, Some(old.owner), Some(old.group)) {
+    if let Err(e) = fchown(file, Some(old.uid()), Some(old.gid())) {
         if e.raw_os_error() != Some(NOT_PERMITTED) {
             return Err(e);
         }
     }
-    file.set_permissions(Permissions::from_mode(old.mode % RIGHTS))
+    file.set_permissions(Permissions::from_mode(old.mode() % RIGHTS))
 }
 
 // All bytes of the new file, on the disk.
-fn fill(file: &mut File, bytes: &[u8], old: Option<Status>) -> Result<()> {
+fn fill(file: &mut File, bytes: &[u8], old: Option<&Metadata>) -> Result<()> {
     file.write_all(bytes)?;
     keep_rights(file, old)?;
     file.sync_all()
 }
 
-// A new file and its name's size.
+// A new file and its name.
 #[derive(Drop)]
 struct Made {
     file: File,
-    size: usize,
+    name: Path,
 }
 
 // Makes a file that isn't there yet.
@@ -99,16 +116,14 @@ fn create(rt: &HostRuntime, path: &[u8]) -> Result<File> {
         .open(rt, paths::as_text(path)?)
 }
 
-// Makes a file in the folder of a path, and puts its name into a room.
-fn make_beside(rt: &HostRuntime, path: &[u8], room: &mut [u8]) -> Result<Made>
-    ensures { IfOk result (λ made. IsPrefixLen made.size room.new) }
-{
-    let mut name = [0u8; NAME_SIZE];
-    rt.fill_bytes(&mut name)?;
-    paths::put_fresh(&mut name);
-    let size = paths::put_beside(path, &name, room);
-    let file = create(rt, &room[..size])?;
-    Ok(Made { file, size })
+// Makes a file of a fresh name in the folder of a path.
+fn make_beside(rt: &HostRuntime, path: &[u8]) -> Result<Made> {
+    let mut fresh = [0u8; NAME_SIZE];
+    rt.fill_bytes(&mut fresh)?;
+    paths::put_fresh(&mut fresh);
+    let name = Path::beside(path, &fresh);
+    let file = create(rt, name.as_bytes())?;
+    Ok(Made { file, name })
 }
 
 // Opens a file or a folder for reading.
@@ -119,9 +134,8 @@ fn open_read(rt: &HostRuntime, path: &[u8]) -> Result<File> {
 // The new name is on the disk too. The file stands by then: where its folder can't be flushed, a power cut brings the old one back,
 // and that one is whole.
 fn flush_folder(rt: &HostRuntime, path: &[u8]) {
-    let mut name = [0u8; PATH_MAX];
-    let size = paths::put_beside(path, b".", &mut name);
-    if let Ok(folder) = open_read(rt, &name[..size]) {
+    let name = Path::beside(path, b".");
+    if let Ok(folder) = open_read(rt, name.as_bytes()) {
         let _ = folder.sync_all();
     }
 }
@@ -141,7 +155,7 @@ fn take_name(
     name: &[u8],
     path: &[u8],
     bytes: &[u8],
-    old: Option<Status>,
+    old: Option<&Metadata>,
 ) -> Result<()> {
     let mut file = made;
     fill(&mut file, bytes, old)?;
@@ -150,19 +164,18 @@ fn take_name(
 }
 
 // Replaces a file, or makes it where there is none. Whatever fails, the old one stays and the new one is removed.
-fn replace(rt: &HostRuntime, path: &[u8], bytes: &[u8], old: Option<Status>) -> Result<()> {
+fn replace(rt: &HostRuntime, path: &[u8], bytes: &[u8], old: Option<&Metadata>) -> Result<()> {
     if old.is_some() {
         check_writable(rt, path)?;
     }
-    let mut name = [0u8; PATH_MAX];
-    let Made { file, size } = make_beside(rt, path, &mut name)?;
-    match take_name(rt, file, &name[..size], path, bytes, old) {
+    let Made { file, name } = make_beside(rt, path)?;
+    match take_name(rt, file, name.as_bytes(), path, bytes, old) {
         Ok(()) => {
             flush_folder(rt, path);
             Ok(())
         }
         Err(e) => {
-            unlink(rt, &name[..size])?;
+            unlink(rt, name.as_bytes())?;
             Err(e)
         }
     }
@@ -174,45 +187,38 @@ fn is_no_text(error: &Error) -> bool {
 }
 
 // The text of a link, none where the name is no link's. A link whose text can't be had is an error, since the link must stay.
-fn read_link(rt: &HostRuntime, path: &[u8], text: &mut [u8]) -> Result<Option<usize>>
-    ensures { IfOk result (λ told. IfSome told (λ size. IsPrefixLen size text.new)) }
-{
+fn read_link(rt: &HostRuntime, path: &[u8]) -> Result<Option<Path>> {
     match fs::read_link(rt, paths::as_text(path)?) {
         Ok(link) if link.as_str().is_empty() => Ok(None),
-        Ok(link) => Ok(Some(paths::put_name(link.as_str().as_bytes(), text, 0))),
+        Ok(link) => Ok(Some(Path::new(link.as_str().as_bytes()))),
         Err(e) if is_no_text(&e) => Err(Error::from_raw_os_error(NO_TEXT)),
         Err(e) if e.kind() == ErrorKind::OutOfMemory => Err(e),
         Err(_) => Ok(None),
     }
 }
 
-// Follows one link: where the path in the room is a link's, the path that it stands for is put in its place, and the answer is its size;
-// where it doesn't fit, the whole room's, which is longer than any path. The answer is None where the path is no link's or the system
-// tells of none, and an error where the path can't be handed to the system, the link's text is none, or there was no memory for it.
-fn follow_once(rt: &HostRuntime, room: &mut [u8], size: usize) -> Result<Option<usize>>
-    requires { IsPrefixLen size room.old }
-    ensures { IfOk result (λ told. IfSome told (λ next. IsPrefixLen next room.new)) }
-{
-    let mut text = [0u8; PATH_MAX];
-    let Some(n) = read_link(rt, &room[..size], &mut text)? else {
+// Follows one link: the path that a link's name stands for. None where the path is no link's or the system tells of none, and an error
+// where the path can't be handed to the system, the link's text is none, or there was no memory for it.
+fn follow_once(rt: &HostRuntime, path: &Path) -> Result<Option<Path>> {
+    let Some(text) = read_link(rt, path.as_bytes())? else {
         return Ok(None);
     };
-    let at = paths::link_start(&room[..size], &text[..n]);
-    Ok(Some(paths::put_name(&text[..n], room, at)))
+    let at = paths::link_start(path.as_bytes(), text.as_bytes());
+    let mut bytes = path.bytes;
+    let size = paths::put_name(text.as_bytes(), &mut bytes, at);
+    Ok(Some(Path { bytes, size }))
 }
 
-// Puts into a room the path that a name stands for, where the last of its links leads: there the file is replaced, and the links stay.
-fn follow(rt: &HostRuntime, path: &[u8], room: &mut [u8]) -> Result<usize>
-    ensures { IfOk result (λ size. IsPrefixLen size room.new) }
-{
-    let mut size = paths::put_name(path, room, 0);
+// The path that a name stands for, where the last of its links leads: there the file is replaced, and the links stay.
+fn follow(rt: &HostRuntime, name: &[u8]) -> Result<Path> {
+    let mut path = Path::new(name);
     for _ in 0..LINK_LIMIT {
-        let Some(next) = follow_once(rt, room, size)? else {
+        let Some(next) = follow_once(rt, &path)? else {
             break;
         };
-        size = next;
+        path = next;
     }
-    Ok(size)
+    Ok(path)
 }
 
 // Nothing may stand under the name, so that a file can be made there. Where the system can't say so, the error tells why. A file that it
@@ -220,24 +226,28 @@ fn follow(rt: &HostRuntime, path: &[u8], room: &mut [u8]) -> Result<usize>
 fn check_free(rt: &HostRuntime, path: &[u8], untold: Error) -> Result<()> {
     match open_read(rt, path) {
         Ok(_) => Err(untold),
-        Err(e) if e.raw_os_error() == Some(NOT_FOUND) => Ok(()),
+        Err(e) if e.kind() == ErrorKind::NotFound => Ok(()),
         Err(e) => Err(e),
     }
 }
 
 // Replaces the file that a name's links lead to, or makes it.
-fn replace_linked(rt: &HostRuntime, path: &[u8], bytes: &[u8], old: Option<Status>) -> Result<()> {
-    let mut room = [0u8; PATH_MAX];
-    let n = follow(rt, path, &mut room)?;
-    replace(rt, &room[..n], bytes, old)
+fn replace_linked(
+    rt: &HostRuntime,
+    path: &[u8],
+    bytes: &[u8],
+    old: Option<&Metadata>,
+) -> Result<()> {
+    let target = follow(rt, path)?;
+    replace(rt, target.as_bytes(), bytes, old)
 }
 
 // Bytes into the file of a name: a regular file is replaced, whatever else has the name is written through. Where it fails, the error
 // says why.
 pub fn save(rt: &HostRuntime, path: &[u8], bytes: &[u8]) -> Result<()> {
     match status::find(rt, path) {
-        Ok(old) if !is_regular(old) => write_through(rt, path, bytes),
-        Ok(old) => replace_linked(rt, path, bytes, Some(old)),
+        Ok(old) if !old.is_file() => write_through(rt, path, bytes),
+        Ok(old) => replace_linked(rt, path, bytes, Some(&old)),
         Err(e) => {
             check_free(rt, path, e)?;
             replace_linked(rt, path, bytes, None)

@@ -7,7 +7,8 @@ ghost use Rattle.paths.specs.Paths.{is_path, folder_size, folder, link_start, na
 
 use std::io::{Error, Result};
 
-// The system's numbers for a path that it can't be handed: it is too long, or it has a 0 or no text in it.
+// The system's numbers for a path that it can't be handed: it is too long, or it has a 0 or no text in it. Numbers and no kinds, since the
+// programs print what the system says of the number.
 pub const NAME_TOO_LONG: i32 = 36;
 
 pub const INVALID: i32 = 22;
@@ -43,13 +44,15 @@ pub fn as_text(path: &[u8]) -> Result<&str>
     if !is_path(path) {
         return Err(Error::from_raw_os_error(INVALID));
     }
+    // A match: with `map_err`, the wrong program that refuses every text fell by a limit of the search.
     match std::str::from_utf8(path) {
         Ok(text) => Ok(text),
         Err(_) => Err(Error::from_raw_os_error(NO_TEXT)),
     }
 }
 
-// How many bytes of a path name its folder.
+// How many bytes of a path name its folder. A match, since each way has its law (`slash_at`, `slash_nowhere`): with `map_or` the proof
+// didn't close.
 pub fn folder_size(path: &[u8]) -> usize
     ensures value { result ≡ folder_size path.now }
     ensures prefix_len { IsPrefixLen result path.now }
@@ -70,9 +73,10 @@ pub fn link_start(path: &[u8], text: &[u8]) -> usize
     folder_size(path)
 }
 
-// Puts a name behind the first bytes of a room. Where it doesn't fit, the answer is the whole room, which is longer than any path: the
-// system then says that the name is too long. A room and a place, and no writer: each caller says where its name goes, and only one puts
-// another name behind it.
+// Puts a name behind the first bytes of a room, and tells where it ends. Where it doesn't fit, nothing is put, and the answer is the whole
+// room, as where it fits exactly: a room of PATH_MAX bytes is longer than any path, so that either is then refused as too long. No Option,
+// since `Named` has the length so. A room and a place, and no writer: each caller says where its name goes, and only one puts another name
+// behind it.
 pub fn put_name(name: &[u8], room: &mut [u8], at: usize) -> usize
     ensures { Named at name.now room.old result room.new }
 {
@@ -112,7 +116,7 @@ pub fn put_fresh(name: &mut [u8])
     ensures { name.new ≡ fresh_name name.old }
 {
     for b in name.iter_mut() {
-        *b = b'a' + *b % 26;
+        *b = b'a' + *b % base::LETTER_LIMIT;
     }
     put_name(b".tteolmigu-", name, 0);
 }
