@@ -11,22 +11,25 @@ use hyphenation::Setting;
 // "Empty list: C 1, E 0, 12 bytes": a table in which no walk finds anything.
 const EMPTY_TABLE: [u8; 12] = [1, 1, 0, 1, 0, 0, 2, 0, 0, 0, 0, 0];
 
+// The descriptor of standard output.
+const OUTPUT: i32 = 1;
+
 // Each number behind a space.
 fn put_numbers(numbers: &[usize]) {
     for n in numbers {
-        io::write_all(1, b" ");
-        io::print_decimal(1, *n as u64);
+        io::write_all(OUTPUT, b" ");
+        io::print_decimal(OUTPUT, *n as u64);
     }
 }
 
 fn show(sample: &[u8], judged: Result<(), Ground>) {
-    io::write_all(1, sample);
-    io::write_all(1, b":");
+    io::write_all(OUTPUT, sample);
+    io::write_all(OUTPUT, b":");
     match judged {
         Ok(()) => put_numbers(&[0, 0, 0]),
         Err(g) => put_numbers(&[g.number(), g.list(), g.place()]),
     }
-    io::write_all(1, b"\n");
+    io::write_all(OUTPUT, b"\n");
 }
 
 fn word(sample: &[u8]) {
@@ -45,10 +48,10 @@ fn exceptions(sample: &[u8]) {
 }
 
 fn find<'a>(sample: &[u8], customer: &'a [u8], house: &'a [u8]) {
-    io::write_all(1, sample);
-    io::write_all(1, b": ");
-    io::write_all(1, lookup::lookup(sample, customer, house));
-    io::write_all(1, b"\n");
+    io::write_all(OUTPUT, sample);
+    io::write_all(OUTPUT, b": ");
+    io::write_all(OUTPUT, lookup::lookup(sample, customer, house));
+    io::write_all(OUTPUT, b"\n");
 }
 
 fn gaps(room: &[u8]) {
@@ -69,42 +72,41 @@ fn breaks<'a>(left: usize, right: usize, sample: &[u8], customer: &'a [u8], hous
         table: &EMPTY_TABLE,
     };
     let answer = hyphenation::hyphenate(&setting, sample, &mut room);
-    io::write_all(1, sample);
+    io::write_all(OUTPUT, sample);
     put_numbers(&[left, right]);
-    io::write_all(1, b":");
+    io::write_all(OUTPUT, b":");
     if let Ok(found) = answer {
         put_numbers(&[found.marks, found.looks]);
     }
     gaps(&room);
-    io::write_all(1, b"\n");
+    io::write_all(OUTPUT, b"\n");
 }
 
+// What came out, by its number, and the gap, as the figures are told. `tteolmigu` makes bits of the same three cases: a pair that both read would take
+// these arms too, and a contract more, so it is no plainer.
 fn show_fitting(fitting: Result<Fitting, Ground>) {
     match fitting {
         Ok(Fitting::Whole) => put_numbers(&[gauge::WHOLE_OUTCOME, 0]),
         Ok(Fitting::Break(gap)) => put_numbers(&[gauge::BREAK_OUTCOME, gap]),
         Ok(Fitting::Nowhere) => put_numbers(&[gauge::NONE_OUTCOME, 0]),
         Err(g) => {
-            io::write_all(1, b" ?");
+            io::write_all(OUTPUT, b" ?");
             put_numbers(&[g.number(), g.place()]);
         }
     }
-    io::write_all(1, b"\n");
+    io::write_all(OUTPUT, b"\n");
 }
 
 // A word of which every gap is a break: "a" has its own width, all other letters another.
 fn fit(name: &[u8], hyphen: f64, line: f64, first: f64, other: f64, sample: &[u8]) {
     let mut widths = [other; base::WIDTH_COUNT];
     widths[0] = first;
-    let gauge = Gauge {
-        hyphen: hyphen,
-        line: line,
-    };
+    let gauge = Gauge { hyphen, line };
     let room = [7u8; base::ROOM_SIZE];
-    io::write_all(1, sample);
-    io::write_all(1, b", ");
-    io::write_all(1, name);
-    io::write_all(1, b":");
+    io::write_all(OUTPUT, sample);
+    io::write_all(OUTPUT, b", ");
+    io::write_all(OUTPUT, name);
+    io::write_all(OUTPUT, b":");
     show_fitting(gauge::fit_word(gauge, &widths, sample, &room));
 }
 

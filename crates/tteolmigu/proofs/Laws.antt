@@ -1,8 +1,11 @@
--- The bits of an answer by its cases, and what a running text's call leaves of its state's bytes.
-use Prim.Native.Nat.{ℕ}
+-- A number cut and shifted, the bits of an answer by its cases, and what a running text's call leaves of its state's bytes.
+use Prim.Native.Nat.{ℕ, ◌+◌, ◌*◌, ◌%◌, ◌^◌, ◌<◌, ◌≤◌}
 use mathlib.Core.List.{List}
 use mathlib.Core.Path.{◌≡◌, ◌∙◌, ap, subst}
+use native.Mathlib.Omega.{arith}
 use lib.ListN.{length}
+use lib.Pow.{shl_exact}
+use Rattle.std.proofs.lemmas.Nat.{mod_below, pow_pos}
 use Rattle.base.specs.declared.Ground.{Ground}
 use Rattle.states.specs.Bytes.{of_bytes}
 use Rattle.states.specs.State.{read_state}
@@ -11,7 +14,13 @@ use Rattle.running.specs.Calls.{total_now, Pieces, piece_answer, piece_next, pie
 use Rattle.running.specs.declared.Taken.{Taken}
 use Rattle.std.specs.Prelude.{Result, Ok, Err, MatchResult}
 use Rattle.running.proofs.Order.{piece_ordered, end_ordered, computed}
-use Rattle.tteolmigu.specs.Bits.{text_bits, bytes_left}
+use Rattle.tteolmigu.specs.Bits.{bits_at, text_bits, bytes_left}
+
+-- Nothing is shifted out of the 64 bits.
+pub cut_and_put : (low width n : ℕ) → width < 64 → low + width ≤ 64 → n % (1 * 2 ^ width % 18446744073709551616) * 2 ^ low % 18446744073709551616 ≡ bits_at low width n
+cut_and_put low width n w b =
+    let one : 1 * 2 ^ width % 18446744073709551616 ≡ 2 ^ width = omega (arith, shl_exact {a = 1} 1 width 64 (omega arith) (omega arith)) in
+    rw one (shl_exact {a = n % 2 ^ width} width low 64 (mod_below n (2 ^ width) (pow_pos width)) (omega arith))
 
 -- An answer has the bits of what it is: a finding, or a refusal.
 pub by_cases : {T : Type 0} (bits_of : Result T Ground → ℕ) (answer : Result T Ground) {bits : ℕ} → MatchResult answer (λ found. bits ≡ bits_of (Ok found)) (λ ground. bits ≡ bits_of (Err ground)) → bits ≡ bits_of answer

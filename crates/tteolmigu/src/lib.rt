@@ -1,7 +1,7 @@
 // The C interface: the nine calls, each answer as one number of 64 bits. The crate tteolmigu_c exports them.
 #![tactic(auto)]
 
-ghost use Rattle.std.specs.Prelude.{◌≡◌, Ok, MatchResult, length};
+ghost use Rattle.std.specs.Prelude.{◌≡◌, ◌+◌, ◌<◌, ◌≤◌, Ok, MatchResult, length};
 ghost use Rattle.lookup.specs.Lookup.{locate};
 ghost use Rattle.rightness.specs.Test.{judge_check};
 ghost use Rattle.hyphenation.specs.Calls.{levels_answer, levels_room, breaks_answer, breaks_room};
@@ -26,16 +26,25 @@ struct Bits {
     number: u64,
 }
 
+// A number, cut to its last `width` bits, as it stands from bit `low` on.
+fn bits_at(low: u32, width: u32, n: usize) -> u64
+    requires low { low < 64 }
+    requires width { width < 64 }
+    requires both { low + width ≤ 64 }
+    ensures { result ≡ bits_at low width n }
+{
+    (n as u64 % (1 << width)) << low
+}
+
 // A refusal: its number, list and place.
 impl From<Ground> for Bits {
     ghost from_gives = { λ ground bits. bits.number ≡ refusal_bits ground };
 
     fn from(ground: Ground) -> Self {
-        let high = ground.number() as u64 % 256;
-        let middle = ground.list() as u64 % 256;
-        let low = ground.place() as u64 % 281474976710656;
         Bits {
-            number: high * 72057594037927936 + middle * 281474976710656 + low,
+            number: bits_at(56, 8, ground.number())
+                + bits_at(48, 8, ground.list())
+                + bits_at(0, 48, ground.place()),
         }
     }
 }
@@ -57,10 +66,8 @@ impl From<Found> for Bits {
     ghost from_gives = { λ found bits. bits.number ≡ found_bits found.marks found.looks };
 
     fn from(found: Found) -> Self {
-        let high = found.marks as u64 % 65536;
-        let low = found.looks as u64 % 4294967296;
         Bits {
-            number: high * 4294967296 + low,
+            number: bits_at(32, 16, found.marks) + bits_at(0, 32, found.looks),
         }
     }
 }
@@ -71,7 +78,7 @@ impl From<usize> for Bits {
 
     fn from(size: usize) -> Self {
         Bits {
-            number: size as u64 % 281474976710656,
+            number: bits_at(0, 48, size),
         }
     }
 }
@@ -89,10 +96,7 @@ impl From<()> for Bits {
 fn line_bits(list: usize, start: usize, end: usize) -> u64
     ensures { result ≡ line_bits list start end }
 {
-    let size = end.saturating_sub(start) as u64 % 65536;
-    let which = list as u64 % 256;
-    let offset = start as u64 % 4294967296;
-    which * 281474976710656 + offset * 65536 + size
+    bits_at(48, 8, list) + bits_at(16, 32, start) + bits_at(0, 16, end.saturating_sub(start))
 }
 
 // The lookup.
@@ -113,9 +117,7 @@ impl From<Located> for Bits {
 fn fitting_bits(outcome: usize, gap: usize) -> u64
     ensures { result ≡ fitting_bits outcome gap }
 {
-    let code = outcome as u64 % 256;
-    let low = gap as u64 % 4294967296;
-    code * 4294967296 + low
+    bits_at(32, 8, outcome) + bits_at(0, 32, gap)
 }
 
 // The fitting call.
@@ -137,10 +139,7 @@ impl From<Fitting> for Bits {
 fn reprint_bits(outcome: usize, breaks: usize, executed: usize) -> u64
     ensures { result ≡ reprint_bits outcome breaks executed }
 {
-    let high = outcome as u64 % 2;
-    let middle = breaks as u64 % 65536;
-    let low = executed as u64 % 4294967296;
-    high * 281474976710656 + middle * 4294967296 + low
+    bits_at(48, 1, outcome) + bits_at(32, 16, breaks) + bits_at(0, 32, executed)
 }
 
 // The 1980 machine.
@@ -165,10 +164,8 @@ impl From<Written> for Bits {
 
     fn from(written: Written) -> Self {
         let Written { length, looks } = written;
-        let size = length as u64 % 16777216;
-        let count = looks as u64 % 4294967296;
         Bits {
-            number: size * 4294967296 + count,
+            number: bits_at(32, 24, length) + bits_at(0, 32, looks),
         }
     }
 }
@@ -184,6 +181,25 @@ fn put_taken(taken: Taken, state: &mut [u8; states::STATE_SIZE]) -> u64
     Bits::from(taken.answer).number
 }
 
+// The setting of a call, by its parameters.
+fn setting_of<'a>(
+    left: u64,
+    right: u64,
+    customer: &'a [u8],
+    house: &'a [u8],
+    table: &'a [u8],
+) -> Setting<'a>
+    ensures { result ≡ record { left = left; right = right; customer = customer.entry; house = house.entry; table = table.entry } }
+{
+    Setting {
+        left: left as usize,
+        right: right as usize,
+        customer,
+        house,
+        table,
+    }
+}
+
 // The hyphenating call. Its parameters, and those of the calls below, are the exports'.
 pub fn tteolmigu_hyphenate<'a>(
     left: u64,
@@ -197,13 +213,7 @@ pub fn tteolmigu_hyphenate<'a>(
     ensures bits { result ≡ answer_bits (breaks_answer left right word.now customer.now house.now table.now (length room.old)) }
     ensures memory { room.new ≡ breaks_room left right word.now customer.now house.now table.now room.old }
 {
-    let setting = Setting {
-        left: left as usize,
-        right: right as usize,
-        customer,
-        house,
-        table,
-    };
+    let setting = setting_of(left, right, customer, house, table);
     Bits::from(hyphenation::hyphenate(&setting, word, room)).number
 }
 
@@ -247,10 +257,7 @@ pub fn tteolmigu_fit(
 ) -> u64
     ensures { result ≡ fit_bits (fit_answer (gauge_of hyphen line) widths.now word.now room.now) }
 {
-    let gauge = Gauge {
-        hyphen: hyphen,
-        line: line,
-    };
+    let gauge = Gauge { hyphen, line };
     Bits::from(gauge::fit_word(gauge, widths, word, room)).number
 }
 
@@ -277,13 +284,7 @@ pub fn tteolmigu_piece<'a>(
     ensures state { state.new ≡ bytes_left (piece_answer (of_bytes state.old) left right customer.now house.now table.now piece.now (length room.old)) state.old (piece_next (of_bytes state.old) left right customer.now house.now table.now piece.now (length room.old)) }
     ensures memory { room.new ≡ piece_room (of_bytes state.old) left right customer.now house.now table.now piece.now room.old }
 {
-    let setting = Setting {
-        left: left as usize,
-        right: right as usize,
-        customer,
-        house,
-        table,
-    };
+    let setting = setting_of(left, right, customer, house, table);
     let given = states::read_bytes(state);
     let taken = running::take_piece(given, &setting, piece, room);
     put_taken(taken, state)
@@ -303,13 +304,7 @@ pub fn tteolmigu_end<'a>(
     ensures state { state.new ≡ bytes_left (end_answer (of_bytes state.old) left right customer.now house.now table.now (length room.old)) state.old (end_next (of_bytes state.old) left right customer.now house.now table.now (length room.old)) }
     ensures memory { room.new ≡ end_room (of_bytes state.old) left right customer.now house.now table.now room.old }
 {
-    let setting = Setting {
-        left: left as usize,
-        right: right as usize,
-        customer,
-        house,
-        table,
-    };
+    let setting = setting_of(left, right, customer, house, table);
     let given = states::read_bytes(state);
     let taken = running::end_text(given, &setting, room);
     put_taken(taken, state)

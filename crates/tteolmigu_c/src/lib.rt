@@ -1,4 +1,5 @@
 // The exports for C, as include/tteolmigu.h declares them. Each is the function of its name in the crate tteolmigu, with its promise.
+// A crate of its own, as the C interface needs: a library that other crates use, as `demands` uses tteolmigu, can't be an archive for C.
 #![tactic(auto)]
 
 ghost use Rattle.std.specs.Prelude.{◌≡◌, ◌-◌, length};
