@@ -31,7 +31,8 @@ fn is_entry(bytes: &[u8; table::ENTRY_ROOM], at: usize, entry: Entry) -> bool
     there == entry
 }
 
-// The number of the first entry that is this one. No entry has number 0.
+// The number of the first entry that is this one. No entry has number 0. The loop counts numbers and not places, since a number is what
+// `find_entry` of `fit` goes by and what is answered.
 #[tactic(auto, using(crate::proofs::Laws::find_start, crate::proofs::Laws::find_here, crate::proofs::Laws::find_on, crate::proofs::Laws::find_none))]
 fn find_entry(bytes: &[u8; table::ENTRY_ROOM], count: u16, entry: Entry) -> Option<u16>
     requires { count ≤ entry_limit }
@@ -92,9 +93,8 @@ pub fn enter_levels(
     ensures count_value { fit.enter_levels (levels_from 0 line.now) m 0 (suc m) (fit.Made bytes.old count 0) ≡ as_entries bytes.new result }
     ensures result_bound { count_of result ≤ entry_limit }
 {
-    let mut made = count;
-    let mut last: u16 = 0;
-    for distance in 0..m + 1 {
+    let mut made = Made { count, last: 0 };
+    for distance in 0..=m {
         let level = patterns::level_at(line, (m - distance) as usize);
         if level == 0 {
             continue;
@@ -102,11 +102,9 @@ pub fn enter_levels(
         let entry = Entry {
             distance,
             level,
-            next: last,
+            next: made.last,
         };
-        let step = enter(bytes, made, entry)?;
-        made = step.count;
-        last = step.last;
+        made = enter(bytes, made.count, entry)?;
     }
-    Some(Made { count: made, last })
+    Some(made)
 }

@@ -4,10 +4,13 @@ use mathlib.Core.Bool.{Bool, true, false, cond, not, ◌&&◌, ◌||◌}
 use mathlib.Core.List.{List, [], ◌∷◌, map}
 use mathlib.Core.Path.{◌≡◌, refl, sym, ◌∙◌, ap}
 use native.Mathlib.Nat.{sub-zero}
+use native.Mathlib.Decide.{dec_lt}
 use native.Mathlib.Numerals.{add-one}
 use native.Mathlib.Omega.{arith}
 use borrow.Author.Tests.{eq-eqb, ne_eqb, eqb-true, eqb-false, ltb-true}
 use lib.Dec.{leb, ltb, eqb}
+use Rattle.std.specs.Option.{MatchOption, unwrap_or}
+use Rattle.std.specs.Prelude.{Option, Some, None}
 use lib.ListN.{length, get_or, take, drop, set, replicate, length-set, drop_of_length-le}
 use lib.Seq.{set_out, get_or-take, length-take-le}
 use Rattle.base.specs.Limits.{symbol_limit, cell_limit}
@@ -40,21 +43,26 @@ module _ (bytes taken : List ℕ) (child : ℕ → Bool) (base : ℕ) where
   serves_used {first = first} h a b m e z =
       rw (eq-eqb (get_or taken base 0) 0 h) (sym (all_not (λ s. not (child s) || is_free bytes (base + s)) 1 symbol_limit first a (omega (arith, b)) (rw m (sym e ∙ z))))
 
--- the smallest number below a total that passes a test, from k on
-module _ (test : ℕ → Bool) (k total : ℕ) where
-  smallest_turn : k < total → smallest test k (total - k) ≡ cond (test k) k (smallest test (k + 1) (total - (k + 1)))
-  unfolding smallest
-  smallest_turn h = let e : total - k ≡ suc (total - (k + 1)) = omega arith in rw (e, add-one)
+-- the smallest number that passes a test, as a search over a range finds it
+smallest_past : (test : ℕ → Bool) (k n : ℕ) → ((i : ℕ) → k ≤ i → i < k + n → test i ≡ false) → smallest test k n ≡ k + n
+unfolding smallest
+smallest_past test k zero h = omega arith
+smallest_past test k (suc n) h = rw (h k (omega arith) (omega arith), smallest_past test (suc k) n (λ i a b. h i (omega arith) (omega arith))) (omega arith)
 
-  pub smallest_here : k < total → test k ≡ true → smallest test k (total - k) ≡ k
-  smallest_here h t = smallest_turn h ∙ rw t
+smallest_at : (test : ℕ → Bool) (k n j : ℕ) → k ≤ j → j < k + n → test j ≡ true → ((i : ℕ) → k ≤ i → i < j → test i ≡ false) → smallest test k n ≡ j
+unfolding smallest
+smallest_at test k zero j a b t h = absurd (omega arith)
+smallest_at test k (suc n) j a b t h = go (dec_lt k j) (smallest_at test (suc k) n j)
+  where
+    go : Dec (k < j) → (suc k ≤ j → j < suc k + n → test j ≡ true → ((i : ℕ) → suc k ≤ i → i < j → test i ≡ false) → smallest test (suc k) n ≡ j) → cond (test k) k (smallest test (suc k) n) ≡ j
+    go (yes p) next = rw (h k (omega arith) p) (next (omega arith) (omega arith) t (λ i x y. h i (omega arith) y))
+    go (no p) next = let i : j ≡ k = omega arith in let e : test k ≡ true = rw (← i) t in rw e (sym i)
 
-  pub smallest_on : k < total → test k ≡ false → smallest test k (total - k) ≡ smallest test (k + 1) (total - (k + 1))
-  smallest_on h t = smallest_turn h ∙ rw t
-
-  pub smallest_end : total ≤ k → smallest test k (total - k) ≡ k
-  unfolding smallest
-  smallest_end h = let e : total - k ≡ 0 = omega arith in rw e
+pub smallest_found : (test : ℕ → Bool) (k n total : ℕ) (r : Option ℕ) → k + n ≡ total
+    → MatchOption r ((i : ℕ) → k ≤ i → i < total → test i ≡ false) (λ j. (k ≤ j) × (j < total) × (test j ≡ true) × ((i : ℕ) → k ≤ i → i < j → test i ≡ false))
+    → unwrap_or r total ≡ smallest test k n
+smallest_found test k n total None e m = sym (smallest_past test k n (λ i a b. m i a (omega (arith, e, b))) ∙ e)
+smallest_found test k n total (Some j) e m = sym (smallest_at test k n j m.0 (omega (arith, e, m.1)) m.2 m.3)
 
 -- one cell
 module _ (n s : ℕ) (bytes : List ℕ) where

@@ -1,4 +1,5 @@
-// First fit's placing: the cells of a list's paths, in lent rooms.
+// First fit's placing: the cells of a list's paths, in lent rooms. In `mask` and `taken` a mark is the number 1, for `marked`, `serves` and
+// `Fits` have marks as numbers.
 #![tactic(auto)]
 
 ghost use Rattle.std.specs.Prelude.{ℕ, Bool, not, ◌||◌, [], ◌≡◌, ◌+◌, ◌-◌, ◌≤◌, ◌<◌, length, take, set};
@@ -10,7 +11,8 @@ ghost use Rattle.patterns.specs.Next.{opens};
 ghost use Rattle.fit.specs.Cells.{Fits, is_free, serves, base_for, inside, put_cell, put_cells, cell_of, put_link, place, place_length, place_list};
 ghost use Rattle.placing.specs.Post.{marked, Tests, place_line, cell_numbers, Placed};
 
-// Do all marked symbols pass a test?
+// Do all marked symbols pass a test? A loop: with `all` the proof was tried and didn't close, since the promise is for every test that the
+// closure computes.
 fn all_marked<F: Fn(u8) -> bool>(mask: &[u8; patterns::MASK_SIZE], passes: F) -> bool
     requires { F.IsAlwaysCallable passes }
     ensures { (test : ℕ → Bool) → Tests (F.post passes) test → result ≡ all_from (λ s. not (marked mask.now s) || test s) 1 symbol_limit }
@@ -41,7 +43,7 @@ fn are_free(cells: &[u8; table::CELL_ROOM], mask: &[u8; patterns::MASK_SIZE], ba
     all_marked(mask, |symbol| is_free(cells, base, symbol))
 }
 
-// A symbol to try before the others: the first that is marked.
+// A symbol to try before the others: the first that is marked, and the limit where none is.
 fn first_marked(mask: &[u8; patterns::MASK_SIZE]) -> u8
     ensures { (1 ≤ result) × (result ≤ symbol_limit) }
 {
@@ -74,8 +76,8 @@ fn is_serving(
     are_free(cells, mask, base)
 }
 
-// The smallest base from 1 up that serves, or the limit of cells.
-#[tactic(auto, using(crate::proofs::Laws::smallest_here, crate::proofs::Laws::smallest_on, crate::proofs::Laws::smallest_end))]
+// The smallest base from 1 up that serves, or the limit of cells. No Option: `smallest` and `base_for` have it so, and `is_inside` refuses
+// the limit wherever a symbol is marked.
 fn find_base(
     cells: &[u8; table::CELL_ROOM],
     taken: &[u8; base::CELL_LIMIT],
@@ -84,12 +86,9 @@ fn find_base(
     ensures { result ≡ smallest (serves cells.now taken.now (marked mask.now)) 1 (cell_limit - 1) }
 {
     let first = first_marked(mask);
-    for base in 1..base::CELL_LIMIT as u16 {
-        if is_serving(cells, taken, mask, base, first) {
-            return base;
-        }
-    }
-    base::CELL_LIMIT as u16
+    (1..base::CELL_LIMIT as u16)
+        .find(|base| is_serving(cells, taken, mask, *base, first))
+        .unwrap_or(base::CELL_LIMIT as u16)
 }
 
 // Are all cells that the marked symbols need at a base below the limit?
@@ -114,7 +113,7 @@ fn put_cell(cells: &mut [u8; table::CELL_ROOM], n: usize, symbol: u8)
     }
 }
 
-// The cells of the marked symbols at a base.
+// The cells of the marked symbols at a base. A symbol is the mask's place, the cell's number and its byte: its number is what the loop is over.
 #[tactic(auto, using(crate::proofs::Laws::cells_marked, crate::proofs::Laws::cells_other, crate::proofs::Laws::cells_end))]
 fn put_cells(cells: &mut [u8; table::CELL_ROOM], mask: &[u8; patterns::MASK_SIZE], base: u16)
     ensures { cells.new ≡ put_cells (marked mask.now) base 1 symbol_limit cells.old }
@@ -128,6 +127,7 @@ fn put_cells(cells: &mut [u8; table::CELL_ROOM], mask: &[u8; patterns::MASK_SIZE
 }
 
 // The number of the cell that the first m symbols of a line end in, walked from the root's base.
+// Each symbol is asked for by its number: one walk over all m would read the link of the last one too, or part it from the others.
 #[tactic(auto, using(crate::proofs::Laws::cell_on, crate::proofs::Laws::cell_last))]
 pub fn cell_of(cells: &[u8], root: u16, own: &[u8], m: usize) -> usize
     requires { (0 < m) × (m ≤ length (symbols_of own.now)) }
@@ -192,7 +192,7 @@ fn take_base(taken: &mut [u8; base::CELL_LIMIT], base: u16)
 }
 
 // A path gets its base. Cells, marks and the root's base stay three parameters: of a struct that keeps the lent cells each method would have to
-// promise that it still keeps them.
+// promise that it still keeps them. Whether it fits is a Bool here and above: `Placed` has it so.
 #[tactic(auto, using(crate::proofs::Laws::path_full, crate::proofs::Laws::path_fits))]
 fn place_path(
     cells: &mut [u8; table::CELL_ROOM],

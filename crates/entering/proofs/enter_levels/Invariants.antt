@@ -7,4 +7,4 @@ use Rattle.fit.specs.Entries as fit
 use Rattle.entering.proofs.enter_levels.Given as goal
 
 abbrev pub invariant-loop-distance : goal.invariant-loop-distance
-invariant-loop-distance l = (l.distance ≤ suc l.m) × (l.m ≤ pattern_limit) × (l.made ≤ entry_limit) × (fit.enter_levels (levels_from 0 l.line) l.m 0 (suc l.m) (fit.Made l.initial.bytes l.count 0) ≡ fit.enter_levels (levels_from 0 l.line) l.m l.distance (suc l.m - l.distance) (fit.Made l.bytes l.made l.last))
+invariant-loop-distance l = (l.distance ≤ suc l.m) × (l.m ≤ pattern_limit) × (l.made.count ≤ entry_limit) × (fit.enter_levels (levels_from 0 l.line) l.m 0 (suc l.m) (fit.Made l.initial.bytes l.count 0) ≡ fit.enter_levels (levels_from 0 l.line) l.m l.distance (suc l.m - l.distance) (fit.Made l.bytes l.made.count l.made.last))
