@@ -11,10 +11,11 @@ use lib.ListN.{length, get_or}
 use lib.Ieee.{Float, nan, binary64, add, lt, is_nan}
 use Rattle.base.specs.Limits.{room_size, word_limit, width_count, letter_limit, apostrophe_symbol}
 use Rattle.base.specs.Grounds.{Finds, refuse_if, Check}
-use Rattle.std.specs.Prelude.{Ok, Err, EachIndex}
+use Rattle.std.specs.Prelude.{Option, Some, None, Ok, Err, EachIndex}
 use Rattle.base.specs.declared.Ground.{Ground}
 use Rattle.base.specs.declared.Ground.TheVariants.{RoomShort, BadWidth}
 use Rattle.base.proofs.Grounds.{both_fine, not_refused}
+use Rattle.base.proofs.Lists.{clash}
 use Rattle.words.specs.Symbols.{apostrophe, small, letter, lower, symbol_of}
 use Rattle.words.specs.Words.{judge_word, word_byte}
 use Rattle.words.proofs.Laws.{small_low, small_high, symbol_small, apostrophe_lower, byte_letter}
@@ -134,38 +135,58 @@ unfolding fits_in
 fits_is line width = refl
 
 -- the last break so far, by the way the code goes
-module _ (mark : ℕ) (fits : Bool) (i before : ℕ) where
-  pub break_unmarked : mark ≡ 0 → before ≡ cond (not (eqb mark 0) && fits) i before
+module _ (mark : ℕ) (fits : Bool) (i : ℕ) (before : Option ℕ) where
+  pub break_unmarked : mark ≡ 0 → before ≡ cond (not (eqb mark 0) && fits) (Some i) before
   break_unmarked e = rw (eq-eqb mark 0 e)
 
   module _ (m : mark ≡ 0 → ⊥) where
-    pub break_fits_lem : fits ≡ true → i ≡ cond (not (eqb mark 0) && fits) i before
+    pub break_fits_lem : fits ≡ true → Some i ≡ cond (not (eqb mark 0) && fits) (Some i) before
     break_fits_lem e = rw (ne_eqb mark 0 m, e)
 
-    pub break_misfits : fits ≡ false → before ≡ cond (not (eqb mark 0) && fits) i before
+    pub break_misfits : fits ≡ false → before ≡ cond (not (eqb mark 0) && fits) (Some i) before
     break_misfits e = rw (ne_eqb mark 0 m, e)
 
+-- a number that is 0 for none, as a gap
+pub gap_of : ℕ → Option ℕ
+gap_of zero = None
+gap_of (suc n) = Some (suc n)
+
+gap_either : (z : Bool) (i n : ℕ) {found : Option ℕ} → found ≡ gap_of n → cond z (Some (suc i)) found ≡ gap_of (cond z (suc i) n)
+unfolding gap_of
+gap_either true i n e = refl
+gap_either false i n e = e
+
+gap_none : (k : ℕ) → gap_of k ≡ None → k ≡ 0
+unfolding gap_of
+gap_none zero h = refl
+gap_none (suc k) h = clash cc
+
+gap_some : (k : ℕ) {gap : ℕ} → gap_of k ≡ Some gap → Finds (break_found gap) ≡ Finds (break_or_none k)
+unfolding gap_of
+gap_some zero h = clash cc
+gap_some (suc k) {gap} h = let e : suc k ≡ gap = cc in rw e
+
 -- What holds behind the first i letters of a judged word: their width, and the last break among the gaps up to there.
-pub record Measured (g : Gauge) (widths : List Float) (word room : List ℕ) (i : ℕ) (width : Float) (found : ℕ) : Type 0 where
+pub record Measured (g : Gauge) (widths : List Float) (word room : List ℕ) (i : ℕ) (width : Float) (found : Option ℕ) : Type 0 where
   pub sum : width ≡ width_to widths word i
-  pub last : found ≡ last_of (break_fits g widths word room) i
+  pub last : found ≡ gap_of (last_of (break_fits g widths word room) i)
 
 module _ (g : Gauge) (widths : List Float) (word room : List ℕ) where
-  pub measured_none : Measured g widths word room 0 zero_width 0
-  unfolding width_to last_of
+  pub measured_none : Measured g widths word room 0 zero_width None
+  unfolding width_to last_of gap_of
   measured_none = record { sum = refl; last = refl }
 
-  module _ {i : ℕ} {width : Float} {found : ℕ} (m : Measured g widths word room i width found) {w : Float} (l : w ≡ letter_width widths (get_or word i 0)) where
+  module _ {i : ℕ} {width : Float} {found : Option ℕ} (m : Measured g widths word room i width found) {w : Float} (l : w ≡ letter_width widths (get_or word i 0)) where
     -- a letter more
     width_more : add binary64 width w ≡ width_to widths word (i + 1)
     unfolding width_to
     width_more = rw (add-one, m.sum, l)
 
     -- a letter and a gap more
-    pub measured_more : {z : Bool} → z ≡ fits_in g.line (add binary64 (add binary64 width w) g.hyphen) → {r : ℕ} → r ≡ cond (not (eqb (get_or room (i + 1) 0) 0) && z) (i + 1) found
+    pub measured_more : {z : Bool} → z ≡ fits_in g.line (add binary64 (add binary64 width w) g.hyphen) → {r : Option ℕ} → r ≡ cond (not (eqb (get_or room (i + 1) 0) 0) && z) (Some (i + 1)) found
         → Measured g widths word room (i + 1) (add binary64 width w) r
     unfolding last_of is_marked hyphen_fits
-    measured_more f e = record { sum = width_more; last = e ∙ rw (f, width_more, m.last, add-one) }
+    measured_more f e = record { sum = width_more; last = e ∙ rw (f, width_more, add-one) (gap_either _ i _ m.last) }
 
     -- the last letter: the whole word, or its last break
     module _ (end : i + 1 ≡ length word) {z : Bool} (f : z ≡ fits_in g.line (add binary64 width w)) where
@@ -177,18 +198,14 @@ module _ (g : Gauge) (widths : List Float) (word room : List ℕ) where
       unfolding fit_said fit_values
       found_whole e = rw (sym whole ∙ e)
 
-      by_break : z ≡ false → Finds (break_or_none found) ≡ Finds (fit_values g widths word room)
+      by_break : z ≡ false → {k : ℕ} → last_of (break_fits g widths word room) i ≡ k → Finds (break_or_none k) ≡ Finds (fit_values g widths word room)
       unfolding fit_values
-      by_break e = let k : i ≡ length word - 1 = omega arith in rw (sym whole ∙ e, m.last, k)
+      by_break e p = let k : i ≡ length word - 1 = omega arith in rw (sym whole ∙ e, ← p, k)
 
-      pub found_none : z ≡ false → found ≡ 0 → fit_said (Ok fittings.Nowhere) ≡ Finds (fit_values g widths word room)
+      pub found_none : z ≡ false → found ≡ None → fit_said (Ok fittings.Nowhere) ≡ Finds (fit_values g widths word room)
       unfolding fit_said
-      found_none e n = ap (λ (k : ℕ). Finds (break_or_none k)) (sym n) ∙ by_break e
+      found_none e n = by_break e (gap_none (last_of (break_fits g widths word room) i) (sym m.last ∙ n))
 
-      pub found_break : z ≡ false → (found ≡ 0 → ⊥) → fit_said (Ok (fittings.Break found)) ≡ Finds (fit_values g widths word room)
+      pub found_break : z ≡ false → {gap : ℕ} → found ≡ Some gap → fit_said (Ok (fittings.Break gap)) ≡ Finds (fit_values g widths word room)
       unfolding fit_said
-      found_break e n = some found n ∙ by_break e
-        where
-          some : (k : ℕ) → (k ≡ 0 → ⊥) → Finds (break_found k) ≡ Finds (break_or_none k)
-          some zero h = absurd (h refl)
-          some (suc k) h = refl
+      found_break e {gap} n = gap_some (last_of (break_fits g widths word room) i) (sym m.last ∙ n) ∙ by_break e refl

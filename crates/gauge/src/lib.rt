@@ -1,7 +1,7 @@
 // Which break fits the strip: a word's letters and its hyphen measured against a line. CR 2.
 #![tactic(auto)]
 
-ghost use Rattle.std.specs.Prelude.{◌≡◌, true, not, ◌&&◌, cond, [], ◌≤◌, eqb, length};
+ghost use Rattle.std.specs.Prelude.{◌≡◌, true, not, ◌&&◌, cond, [], ◌≤◌, eqb, length, Some};
 ghost use Rattle.base.specs.Limits.{room_size, word_limit, width_count};
 ghost use Rattle.base.specs.Grounds.{Finds, says, first_of};
 ghost use Rattle.words.specs.Words.{judge_word, word_byte};
@@ -11,7 +11,8 @@ ghost use Rattle.gauge.specs.Fit.{given, fit_values, fit_grounds, fit_said, fit_
 use base::Ground;
 use words::Word;
 
-// The widths of a hyphen and of a line, in millimetres. The letters' widths stand beside it.
+// The widths of a hyphen and of a line, in millimetres. The letters' widths stand beside it, and go with it from call to call: they are the
+// caller's own array (CR 2), and what is promised names the two apart.
 #[derive(Clone, Copy)]
 pub struct Gauge {
     pub hyphen: f64,
@@ -70,7 +71,8 @@ fn are_bad_widths(gauge: Gauge, widths: &[f64]) -> bool
     any_bad(widths)
 }
 
-// The grounds of the call for a room of this size: 5, 2, 4, 3, 13.
+// The grounds of the call for a room of this size: 5, 2, 4, 3, 13. All but the last are those of `hyphenation::judge_word_alone`, which this crate
+// does without: it stands beside hyphenation, on the judged word alone.
 pub fn judge_fit(
     gauge: Gauge,
     widths: &[f64; base::WIDTH_COUNT],
@@ -89,7 +91,8 @@ pub fn judge_fit(
     Ok(())
 }
 
-// The width of a letter of either case, or of an apostrophe, whose width stands behind the letters'.
+// The width of a letter of either case, or of an apostrophe, whose width stands behind the letters'. Here and in `find_fit` the widths are a
+// slice and its length a clause: of an array, whose length its type has, no fact says so where what is promised reads it at another default.
 #[tactic(auto, using(crate::proofs::Laws::apostrophe_is, crate::proofs::Laws::letter_number, crate::proofs::Laws::letter_is, words::proofs::Laws::byte_letter))]
 fn letter_width(widths: &[f64], b: u8) -> f64
     requires { (length widths.now ≡ width_count) × (word_byte b ≡ true) }
@@ -110,14 +113,14 @@ fn fits_in(line: f64, width: f64) -> bool
 
 // The last break so far: gap i, where it is marked and fits, else the one before.
 #[tactic(auto, using(crate::proofs::Laws::break_unmarked, crate::proofs::Laws::break_fits_lem, crate::proofs::Laws::break_misfits))]
-fn last_break(mark: u8, fits: bool, i: usize, before: usize) -> usize
-    ensures { result ≡ cond (not (eqb mark 0) && fits) i before }
+fn last_break(mark: u8, fits: bool, i: usize, before: Option<usize>) -> Option<usize>
+    ensures { result ≡ cond (not (eqb mark 0) && fits) (Some i) before }
 {
     if mark == 0 {
         return before;
     }
     if fits {
-        return i;
+        return Some(i);
     }
     before
 }
@@ -132,7 +135,7 @@ fn find_fit(gauge: Gauge, widths: &[f64], word: &Word, room: &[u8]) -> Fitting
     let line = gauge.line;
     let last = word.bytes.len() - 1;
     let mut width = ZERO_WIDTH;
-    let mut found: usize = 0;
+    let mut found = None;
     for i in 0..last {
         width = width + letter_width(widths, word.bytes[i]);
         found = last_break(room[i + 1], fits_in(line, width + hyphen), i + 1, found);
@@ -140,10 +143,10 @@ fn find_fit(gauge: Gauge, widths: &[f64], word: &Word, room: &[u8]) -> Fitting
     if fits_in(line, width + letter_width(widths, word.bytes[last])) {
         return Fitting::Whole;
     }
-    if found == 0 {
-        return Fitting::Nowhere;
+    match found {
+        Some(gap) => Fitting::Break(gap),
+        None => Fitting::Nowhere,
     }
-    Fitting::Break(found)
 }
 
 // Which break of a word fits: the room has the word's breaks, and nothing is written.

@@ -21,14 +21,14 @@ returns-then-fits_in c =
     let n : length c.args.word.now.bytes.now - 1 + 1 ≡ length c.args.word.now.bytes.now = omega (arith, word_some _ _ c.args.word.now.judged) in
     found_whole _ _ _ _ (rw e at c.loop-i.invariant.1) c.letter_width.ensures n c.fits_in-2.ensures c.if-fits_in.true
 
-pub returns-then-found-eq0 : goal.returns-then-found-eq0
-returns-then-found-eq0 c =
+pub returns-in-None : goal.returns-in-None
+returns-in-None c =
     let e : c.loop-i.i ≡ length c.args.word.now.bytes.now - 1 = omega arith in
     let n : length c.args.word.now.bytes.now - 1 + 1 ≡ length c.args.word.now.bytes.now = omega (arith, word_some _ _ c.args.word.now.judged) in
-    found_none _ _ _ _ (rw e at c.loop-i.invariant.1) c.letter_width.ensures n c.fits_in-2.ensures c.if-fits_in.false c.if-found-eq0.true
+    found_none _ _ _ _ (rw e at c.loop-i.invariant.1) c.letter_width.ensures n c.fits_in-2.ensures c.if-fits_in.false c.in-None.is
 
-pub returns : goal.returns
-returns c =
+pub returns-in-Some : goal.returns-in-Some
+returns-in-Some c =
     let e : c.loop-i.i ≡ length c.args.word.now.bytes.now - 1 = omega arith in
     let n : length c.args.word.now.bytes.now - 1 + 1 ≡ length c.args.word.now.bytes.now = omega (arith, word_some _ _ c.args.word.now.judged) in
-    found_break _ _ _ _ (rw e at c.loop-i.invariant.1) c.letter_width.ensures n c.fits_in-2.ensures c.if-fits_in.false c.if-found-eq0.false
+    found_break _ _ _ _ (rw e at c.loop-i.invariant.1) c.letter_width.ensures n c.fits_in-2.ensures c.if-fits_in.false c.in-Some.is
