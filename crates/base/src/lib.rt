@@ -4,7 +4,7 @@
 ghost use Rattle.std.specs.Prelude.{◌≡◌};
 ghost use Rattle.base.specs.Grounds.{told};
 
-// The limits of documents 01 and 02. specs/Limits.antt has each of them under the same name, with the sentence that sets it.
+// The limits of documents 01 and 02. specs/Limits.antt has each of them, with the sentence that sets it, under its name in small letters.
 pub const WORD_LIMIT: usize = 63;
 
 pub const ROOM_SIZE: usize = 64;
@@ -43,7 +43,8 @@ pub const ROOM_PER_BYTE: usize = 3;
 
 pub const HELD_LIMIT: usize = WORD_LIMIT + 1;
 
-// The 1980 machine's own.
+// The 1980 machine's own (word_limit1980, room_size1980, short_word1980, budget1980). The first two are as large as limits above, and have
+// names of their own, since they stay where those move.
 pub const WORD_LIMIT_1980: usize = 63;
 
 pub const ROOM_SIZE_1980: usize = 64;

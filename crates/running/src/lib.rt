@@ -14,7 +14,7 @@ use hyphenation::Setting;
 use states::TextState;
 use writing::Writer;
 
-// What a call wrote: the length of the text, and the count of the words that it finished.
+// What a call wrote: the length of the text, and how many cells were looked at for the words that it finished.
 #[derive(Clone, Copy)]
 pub struct Written {
     pub length: usize,
@@ -77,7 +77,7 @@ pub fn judge_end(setting: &Setting, held: u8, size: usize) -> Result<(), Ground>
     Ok(())
 }
 
-// A judged piece.
+// A judged piece. From C's bytes to a flow and back by hand, since the total and the looks stand in one of the two alone.
 fn flow_piece(s: TextState, setting: &Setting, piece: &[u8], room: &mut [u8]) -> Taken
     requires { Left s × (s.total + length piece.now ≤ running_text) × (room_per_byte * (s.size + length piece.now) ≤ length room.old) }
     ensures { PiecesDone s setting.now.left setting.now.right setting.now.customer.now setting.now.house.now setting.now.table.now piece.now room.old result room.new }
@@ -120,7 +120,8 @@ fn flow_end(held: &[u8], setting: &Setting, room: &mut [u8]) -> Written
     }
 }
 
-// A piece of a running text. Margins, lists and table come with it, and are judged first.
+// A piece of a running text. Margins, lists and table come with it, and are judged first. Its frame and that of `end_text` stay two: what
+// they judge, take and leave as the state differs, and one function of closures for it is no plainer.
 pub fn take_piece(state: TextState, setting: &Setting, piece: &[u8], room: &mut [u8]) -> Taken
     ensures { Pieces state setting.now.left setting.now.right setting.now.customer.now setting.now.house.now setting.now.table.now piece.now room.old result room.new }
 {

@@ -8,8 +8,8 @@ ghost use Rattle.runs.specs.Reached.{is_word, can_be_held, is_reached};
 ghost use Rattle.states.specs.Bytes.{state_size, of_bytes, state_bytes};
 ghost use Rattle.states.specs.State.{state_of, all_zero, is_gone, are_left, is_left, Reads};
 
-// How a run stands between two calls (specs/State.antt, run_of). Numbers and no enum, since C keeps the state as bytes and any byte may
-// stand there: `of_bytes` says what each comes to, and `is_left` which are none.
+// How a run stands between two calls. Numbers and no enum, since C keeps the state as bytes and any byte may stand there: `run_of` of
+// specs/State.antt says which number is whose, `held_by` what each comes to, and `is_left` which are none.
 pub const HOLDING: u8 = 0;
 
 pub const GONE: u8 = 1;
@@ -22,7 +22,8 @@ pub const HEAD_SIZE: usize = 8;
 pub const STATE_SIZE: usize = HEAD_SIZE + base::HELD_LIMIT;
 
 // The bytes held, how many they are, the run, and how many bytes the text has so far. Bytes behind those held are 0. So they stand in C's
-// 72 bytes (`state_bytes`), the number beside its buffer.
+// 72 bytes (`state_bytes`), the number beside its buffer; and so this is another struct than `flowing::Flow`, which counts looks and has no
+// total.
 #[derive(Clone, Copy)]
 pub struct TextState {
     pub held: [u8; base::HELD_LIMIT],
@@ -88,6 +89,7 @@ fn is_holding(bytes: &[u8], total: usize) -> bool
 fn is_gone(run: u8, total: usize) -> bool
     ensures { result ≡ is_gone run total }
 {
+    // `is_reached` has them so: letters past the limit, and an apostrophe behind. HELD_LIMIT is another thing's, which is as long.
     match run {
         GONE => base::WORD_LIMIT + 1 <= total,
         GONE_MARKED => base::WORD_LIMIT + 2 <= total,

@@ -14,7 +14,8 @@ pub const ZERO_DIGIT: u8 = 48;
 
 pub const QUESTION: u8 = 63;
 
-// A lent room, and where writing goes on in it.
+// A lent room, and where writing goes on in it. No Vec, since a project without a heap has none, and no Cursor, whose contracts don't say
+// that the room in it stays the one that was lent. That the place lies in the room is no invariant: `Fits` says it, and of the text's end.
 #[derive(Drop)]
 pub struct Writer<'a> {
     pub room: &'a mut [u8],
@@ -99,7 +100,7 @@ impl<'a> Writer<'a> {
         self.put_byte(b)
     }
 
-    // A word with its breaks, each as a sign before the letter.
+    // A word with its breaks, each as a sign before the letter. Marks and word are two slices, since C's break room is the marks alone.
     pub fn put_hyphenated(&mut self, sign: &[u8], marks: &[u8], word: &[u8])
         requires { (length word.now ≤ length marks.now) × Fits (hyphenated sign.now marks.now word.now) self.old }
         ensures { Writes (hyphenated sign.now marks.now word.now) self.old self.new }
