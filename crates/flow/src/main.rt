@@ -4,18 +4,16 @@
 #![tactic(auto)]
 
 use base::Ground;
-use console::Stream;
+use console::{PIECE, Stream};
 use hyphenation::Setting;
-use running::Written;
+use running::{Taken, Written};
 use states::TextState;
 use std::io::Read;
 
 // The program's name.
 const NAME: &[u8] = b"flow";
 
-// A piece is as large as the buffer that it is read into, and the output room serves for it and for what is held.
-const PIECE: usize = 65536;
-
+// The output room serves for a piece and for what is held.
 const ROOM: usize = base::ROOM_PER_BYTE * (PIECE + base::HELD_LIMIT);
 
 // Whether there is more to be read. Where not, the text has come to its end, or it was cut: refused, or not to be read or written.
@@ -26,9 +24,12 @@ enum Stage {
     Cut,
 }
 
-// How far the text has come: its state, and whether the output stands at the beginning of a line.
-#[derive(Clone, Copy)]
-struct Progress {
+// How far the text has come: what breaks it, the output room, its state, whether the output stands at the beginning of a line, and
+// whether there is more to be read.
+#[derive(Drop)]
+struct Progress<'s, 'r> {
+    setting: &'s Setting<'s>,
+    room: &'r mut [u8],
     state: TextState,
     fresh: bool,
     stage: Stage,
@@ -55,88 +56,75 @@ fn print_refused(rt: &HostRuntime, ground: Ground, fresh: bool) {
     console::print_refusal(rt, NAME, Stream::Output, ground);
 }
 
-// What a call of the text answered: its output is written, or its refusal told.
-fn follow(
-    rt: &HostRuntime,
-    state: TextState,
-    answer: Result<Written, Ground>,
-    room: &[u8],
-    p: Progress,
-) -> Progress {
-    match answer {
-        Ok(Written { length, looks: _ }) => match write_text(rt, room, length, p.fresh) {
-            Some(fresh) => Progress { state, fresh, ..p },
-            None => stop(p, Stage::Cut),
-        },
-        Err(g) => {
-            print_refused(rt, g, p.fresh);
-            stop(p, Stage::Cut)
+impl<'s, 'r> Progress<'s, 'r> {
+    // What a call of the text answered: its output is written, or its refusal told.
+    fn follow(&mut self, rt: &HostRuntime, taken: Taken) {
+        let fresh = self.fresh;
+        self.state = taken.state;
+        match taken.answer {
+            Ok(Written { length, .. }) => match write_text(rt, self.room, length, fresh) {
+                Some(fresh) => self.fresh = fresh,
+                None => self.stage = Stage::Cut,
+            },
+            Err(g) => {
+                print_refused(rt, g, fresh);
+                self.stage = Stage::Cut;
+            }
         }
     }
-}
 
-// A piece of the text.
-fn take_piece(
-    rt: &HostRuntime,
-    piece: &[u8],
-    setting: &Setting,
-    room: &mut [u8],
-    p: Progress,
-) -> Progress {
-    let taken = running::take_piece(p.state, setting, piece, room);
-    follow(rt, taken.state, taken.answer, room, p)
-}
+    // A piece of the text.
+    fn take_piece(&mut self, rt: &HostRuntime, piece: &[u8]) {
+        let taken = running::take_piece(self.state, self.setting, piece, self.room);
+        self.follow(rt, taken);
+    }
 
-// Nothing more is to be read.
-fn stop(p: Progress, stage: Stage) -> Progress {
-    Progress { stage, ..p }
-}
-
-// Reads a piece of the text, if there is one.
-fn read_piece(rt: &HostRuntime, setting: &Setting, room: &mut [u8], p: Progress) -> Progress {
-    let mut buffer = [0u8; PIECE];
-    match rt.stdin().read(&mut buffer) {
-        Ok(0) => stop(p, Stage::Ended),
-        Ok(n) => take_piece(rt, &buffer[..n], setting, room, p),
-        Err(e) => {
-            console::tell(rt, NAME, b"standard input", e);
-            stop(p, Stage::Cut)
+    // Reads a piece of the text, if there is one.
+    fn read_piece(&mut self, rt: &HostRuntime) {
+        let mut buffer = [0u8; PIECE];
+        match rt.stdin().read(&mut buffer) {
+            Ok(0) => self.stage = Stage::Ended,
+            Ok(n) => self.take_piece(rt, &buffer[..n]),
+            Err(e) => {
+                console::tell(rt, NAME, b"standard input", e);
+                self.stage = Stage::Cut;
+            }
         }
     }
-}
 
-// The whole text, up to the end of the input. A proved loop has to end, and nothing says that the input does: so its turns are counted,
-// up to a number that no run reaches.
-fn take_text(rt: &HostRuntime, setting: &Setting, room: &mut [u8], p: Progress) -> Progress {
-    let mut next = p;
-    for _ in 0..u64::MAX {
-        next = read_piece(rt, setting, room, next);
-        if next.stage != Stage::Reading {
-            break;
+    // The whole text, up to the end of the input. A proved loop has to end, and nothing says that the input does: so its turns are
+    // counted, up to a number that no run reaches.
+    fn take_text(&mut self, rt: &HostRuntime) {
+        for _ in 0..u64::MAX {
+            self.read_piece(rt);
+            if self.stage != Stage::Reading {
+                break;
+            }
         }
     }
-    next
-}
 
-// The end of the text. What is held goes out, unless the text was cut: nobody knows how that word goes on.
-fn end_text(rt: &HostRuntime, setting: &Setting, room: &mut [u8], p: Progress) {
-    if p.stage == Stage::Cut {
-        return;
+    // The end of the text. What is held goes out, unless the text was cut: nobody knows how that word goes on.
+    fn end_text(&mut self, rt: &HostRuntime) {
+        if self.stage == Stage::Cut {
+            return;
+        }
+        let taken = running::end_text(self.state, self.setting, self.room);
+        self.follow(rt, taken);
     }
-    let taken = running::end_text(p.state, setting, room);
-    follow(rt, taken.state, taken.answer, room, p);
 }
 
 // The text over judged lists and a packed table. Every piece is judged with them, but they are told before anything is read.
 fn print_text(rt: &HostRuntime, setting: &Setting) {
     let mut room = [0u8; ROOM];
-    let start = Progress {
+    let mut progress = Progress {
+        setting,
+        room: &mut room,
         state: states::new_text(),
         fresh: true,
         stage: Stage::Reading,
     };
-    let end = take_text(rt, setting, &mut room, start);
-    end_text(rt, setting, &mut room, end);
+    progress.take_text(rt);
+    progress.end_text(rt);
 }
 
 fn main(rt: HostRuntime) {

@@ -9,9 +9,6 @@ use hyphenation::Setting;
 // How many files the arguments name.
 const FILES: usize = 3;
 
-// A table's room.
-const ROOM: usize = 65536;
-
 // The margins of the programs' breaks.
 const LEFT: usize = 2;
 
@@ -40,7 +37,7 @@ fn judge<F: FnOnce(&Setting)>(
 )
     requires { F.IsAlwaysCallable go_on }
 {
-    let mut room = [0u8; ROOM];
+    let mut room = [0u8; base::PACK_ROOM];
     match pack_judged(patterns, customer, house, &mut room) {
         Ok(size) => {
             if let Some(table) = room.get(..size) {
@@ -62,16 +59,16 @@ fn judge<F: FnOnce(&Setting)>(
 pub fn run<F: FnOnce(&Setting)>(rt: &HostRuntime, program: &[u8], go_on: F)
     requires { F.IsAlwaysCallable go_on }
 {
-    if !console::has_argument(rt, FILES) || console::has_argument(rt, FILES + 1) {
+    if !console::has_exactly(rt, FILES) {
         console::print_undone(rt, program, Stream::Output);
         return;
     }
     let mut patterns = [0u8; base::PATTERN_TEXT + 1];
     let mut customer = [0u8; base::EXCEPTION_TEXT + 1];
     let mut house = [0u8; base::EXCEPTION_TEXT + 1];
-    let first = console::read_argument(rt, program, false, 1, &mut patterns);
-    let second = console::read_argument(rt, program, false, 2, &mut customer);
-    let third = console::read_argument(rt, program, false, 3, &mut house);
+    let first = console::read_argument(rt, None, 1, &mut patterns);
+    let second = console::read_argument(rt, None, 2, &mut customer);
+    let third = console::read_argument(rt, None, 3, &mut house);
     let (Some(p), Some(c), Some(h)) = (first, second, third) else {
         console::print_undone(rt, program, Stream::Output);
         return;

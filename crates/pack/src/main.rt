@@ -5,12 +5,10 @@
 
 use console::Stream;
 use paths::PATH_MAX;
+use std::io::Error;
 
 // How many arguments there are at most, the program's name included: with so many, the last is the table file.
 const ARGUMENTS: usize = 3;
-
-// A table's room.
-const ROOM: usize = 65536;
 
 // Does the last argument name a table file?
 fn has_table(rt: &HostRuntime) -> bool {
@@ -25,14 +23,13 @@ fn refusals(rt: &HostRuntime) -> Stream {
     Stream::Errors
 }
 
-fn print_table(rt: &HostRuntime, table: &[u8]) -> bool {
-    match console::write(rt, Stream::Output, table) {
-        Ok(()) => true,
-        Err(e) => {
-            console::tell(rt, b"pack", b"standard output", e);
-            false
-        }
-    }
+// Tells what could not be used, and why.
+fn tell(rt: &HostRuntime, what: &[u8], error: Error) {
+    console::tell(rt, b"pack", what, error);
+}
+
+fn print_table(rt: &HostRuntime, table: &[u8]) -> Result<(), ()> {
+    console::write(rt, Stream::Output, table).map_err(|e| tell(rt, b"standard output", e))
 }
 
 fn tell_same(rt: &HostRuntime, path: &[u8]) {
@@ -44,37 +41,22 @@ fn tell_same(rt: &HostRuntime, path: &[u8]) {
 // Does a path name the list?
 fn is_list(rt: &HostRuntime, path: &[u8]) -> bool {
     let mut list = [0u8; PATH_MAX];
-    match console::put_argument(rt, 1, &mut list) {
-        Ok(n) => files::is_same(rt, &list[..n], path),
-        Err(_) => false,
-    }
+    console::put_argument(rt, 1, &mut list).is_ok_and(|n| files::is_same(rt, &list[..n], path))
 }
 
 // The table into the file that the second argument names, unless that is the list.
-fn save_table(rt: &HostRuntime, table: &[u8]) -> bool {
+fn save_table(rt: &HostRuntime, table: &[u8]) -> Result<(), ()> {
     let mut path = [0u8; PATH_MAX];
-    let n = match console::put_argument(rt, 2, &mut path) {
-        Ok(n) => n,
-        Err(e) => {
-            console::tell(rt, b"pack", b"a name", e);
-            return false;
-        }
-    };
+    let n = console::put_argument(rt, 2, &mut path).map_err(|e| tell(rt, b"a name", e))?;
     if is_list(rt, &path[..n]) {
         tell_same(rt, &path[..n]);
-        return false;
+        return Err(());
     }
-    match files::save(rt, &path[..n], table) {
-        Ok(()) => true,
-        Err(e) => {
-            console::tell(rt, b"pack", &path[..n], e);
-            false
-        }
-    }
+    files::save(rt, &path[..n], table).map_err(|e| tell(rt, &path[..n], e))
 }
 
-// The table to where it belongs. Answers whether all of it is there; where not, that was told.
-fn put_table(rt: &HostRuntime, table: &[u8]) -> bool {
+// The table to where it belongs. Where not all of it is there, that was told, and the error says no more.
+fn put_table(rt: &HostRuntime, table: &[u8]) -> Result<(), ()> {
     if has_table(rt) {
         return save_table(rt, table);
     }
@@ -82,10 +64,10 @@ fn put_table(rt: &HostRuntime, table: &[u8]) -> bool {
 }
 
 fn run(rt: &HostRuntime, patterns: &[u8]) {
-    let mut room = [0u8; ROOM];
+    let mut room = [0u8; base::PACK_ROOM];
     match packer::pack(patterns, &mut room) {
         Ok(size) => {
-            if size <= room.len() && !put_table(rt, &room[..size]) {
+            if size <= room.len() && put_table(rt, &room[..size]).is_err() {
                 console::print_undone(rt, b"pack", refusals(rt));
             }
         }
@@ -96,7 +78,7 @@ fn run(rt: &HostRuntime, patterns: &[u8]) {
 // The file is read with room for one byte more than its limit, so that a longer one is told from one that has just as many.
 fn pack_file(rt: &HostRuntime) {
     let mut patterns = [0u8; base::PATTERN_TEXT + 1];
-    let Some(n) = console::read_argument(rt, b"pack", true, 1, &mut patterns) else {
+    let Some(n) = console::read_argument(rt, Some(b"pack"), 1, &mut patterns) else {
         console::print_undone(rt, b"pack", refusals(rt));
         return;
     };

@@ -20,8 +20,8 @@ fn print_check(rt: &HostRuntime, patterns: &[u8], table: &[u8]) {
 fn check_files(rt: &HostRuntime) {
     let mut patterns = [0u8; base::PATTERN_TEXT + 1];
     let mut table = [0u8; base::PACK_ROOM + 1];
-    let first = console::read_argument(rt, b"verify", true, 1, &mut patterns);
-    let second = console::read_argument(rt, b"verify", true, 2, &mut table);
+    let first = console::read_argument(rt, Some(b"verify"), 1, &mut patterns);
+    let second = console::read_argument(rt, Some(b"verify"), 2, &mut table);
     let (Some(p), Some(t)) = (first, second) else {
         console::print_undone(rt, b"verify", Stream::Output);
         return;
@@ -30,7 +30,7 @@ fn check_files(rt: &HostRuntime) {
 }
 
 fn main(rt: HostRuntime) {
-    let given = console::has_argument(&rt, FILES) && !console::has_argument(&rt, FILES + 1);
+    let given = console::has_exactly(&rt, FILES);
     if !given || console::is_option(&rt, 1) || console::is_option(&rt, 2) {
         console::complain(&rt, b"usage: verify LIST TABLE\n");
         console::print_undone(&rt, b"verify", Stream::Output);
