@@ -5,10 +5,9 @@ use mathlib.Core.Path.{◌≡◌, refl}
 use native.Mathlib.Omega.{arith}
 use lib.Dec.{T, leb, eqb}
 use lib.ListN.{get_or}
-use Rattle.tables1980.specs.Pairs.{pair_words}
+use Rattle.tables1980.specs.Pairs.{pair_words, btable}
 use Rattle.tables1980.proofs.Table.{every, at}
 use Rattle.tables1980.proofs.Readers.{pair_before, pair_in, pair_past}
-use Rattle.middle1980.specs.Middles.{joins_h}
 
 -- a row's number is its code less 2: no letter before c nor behind t
 near : ℕ → ℕ → Bool
@@ -26,6 +25,7 @@ row : (k : ℕ) → k < 30 → near k (get_or pair_words k 0) ≡ true
 unfolding pair_words
 row k h = holds (near k (get_or pair_words k 0)) (at near pair_words tested k h)
 
-pub joins_rows : (c : ℕ) → joins_h c ≡ true → (3 ≤ c) × (c ≤ 20)
-unfolding joins_h near
-joins_rows c e = let h = row (c - 2) in grind (arith, pair_before, pair_in, pair_past)
+-- the word of a code that was read
+pub joins_rows : {c w : ℕ} → w ≡ btable c → eqb (w % 8) 0 ≡ false → (3 ≤ c) × (c ≤ 20)
+unfolding near
+joins_rows {c} p e = let h = row (c - 2) in grind (arith, pair_before, pair_in, pair_past)

@@ -1,14 +1,17 @@
 // Phase 4 of the 1980 machine: the consonant pairs in the middle of a word. CR 4. Labels are 004's.
 #![tactic(auto)]
 
-ghost use Rattle.std.specs.Prelude.{◌≡◌, Some, true, ◌&&◌, ◌+◌, ◌<◌, ◌≤◌, eqb};
+ghost use Rattle.std.specs.Prelude.{◌≡◌, Some, None, cond, ◌&&◌, ◌+◌, ◌<◌, ◌≤◌, eqb};
 ghost use Rattle.base.specs.Limits.{word_limit1980};
 ghost use Rattle.tables1980.specs.Words.{o};
 ghost use Rattle.sheet1980.specs.Sheet.{Sheet};
 ghost use Rattle.middle1980.specs.Middles.{joins_h, with_h, is_pair, is_weak, liquid, doubled, ends_in_age, ends_in_est, weakly, paired, between, third, second, pair, ends_in_er, mark_at, scan_vowel, pass_vowel, onward, phase4};
 ghost use Rattle.middle1980.specs.Joined.{joined, Placed};
 
-use sheet1980::{clear_at, code_ahead, code_at, is_vowel};
+use sheet1980::{
+    LETTER_A, LETTER_C, LETTER_E, LETTER_G, LETTER_H, LETTER_K, LETTER_L, LETTER_Q, LETTER_R,
+    LETTER_S, LETTER_T, LETTER_U, clear_at, code_ahead, code_at, is_vowel,
+};
 use tables1980::{has_bit, pair_word};
 
 #[derive(Clone, Copy)]
@@ -43,48 +46,19 @@ impl Goto {
     }
 }
 
-// The codes of the letters that phase 4 names.
-const LETTER_A: u8 = 1;
-
-const LETTER_C: u8 = 3;
-
-const LETTER_E: u8 = 5;
-
-const LETTER_G: u8 = 7;
-
-const LETTER_H: u8 = 8;
-
-const LETTER_K: u8 = 11;
-
-const LETTER_L: u8 = 12;
-
-const LETTER_Q: u8 = 17;
-
-const LETTER_R: u8 = 18;
-
-const LETTER_S: u8 = 19;
-
-const LETTER_T: u8 = 20;
-
-const LETTER_U: u8 = 21;
-
 // The row of the pair table from which on the weak letters stand.
 const WEAK_ROWS: u8 = 26;
 
-#[tactic(auto, unfolding(crate::specs::Middles::joins_h))]
-fn joins_h(c: u8) -> bool
-    ensures { result ≡ joins_h c }
-{
-    pair_word(c) % 8 != 0
-}
-
-#[tactic(auto, using(crate::proofs::Aspirates::joins_rows), unfolding(crate::specs::Middles::with_h))]
-fn with_h(c: u8) -> u8
-    requires { joins_h c ≡ true }
-    ensures { result ≡ with_h c }
+// A letter joined with the h behind it; None where no h stands there or the two aren't joined.
+#[tactic(auto, using(crate::proofs::Aspirates::joins_rows), unfolding(crate::specs::Middles::joins_h, crate::specs::Middles::with_h))]
+fn join_h(c: u8, next: u8) -> Option<u8>
+    ensures { result ≡ cond (eqb next (o "h") && joins_h c) (Some (with_h c)) None }
 {
     let h = (pair_word(c) % 8) as u8;
-    c + h - 2
+    if next != LETTER_H || h == 0 {
+        return None;
+    }
+    Some(c + h - 2)
 }
 
 #[tactic(auto, unfolding(crate::specs::Middles::is_pair))]
@@ -130,6 +104,8 @@ fn go_doubled(at: Goto, sheet: &[u8]) -> Step
     }
 }
 
+// Each ending is tested letter by letter, as its definition has it: a list of letters to go through would have to be unrolled again to meet it,
+// and "age" ends in finale and "er" in a null code.
 #[tactic(auto, using(sheet1980::proofs::Sheets::on_sheet), unfolding(crate::specs::Middles::ends_in_age))]
 fn ends_in_age(finale: usize, i: usize, sheet: &[u8]) -> bool
     ensures { result ≡ ends_in_age finale i sheet.now }
@@ -146,7 +122,8 @@ fn ends_in_est(i: usize, sheet: &[u8]) -> bool
         && code_ahead(sheet, i, 3) == LETTER_T
 }
 
-// A weak pair.
+// A weak pair. Here and below, finale, the registers and the sheet stand one beside the other, as the definitions take them: a struct of finale
+// and the sheet is no plainer, since go_onward writes the sheet and the others read it.
 #[tactic(auto, unfolding(crate::specs::Middles::weakly))]
 fn go_weakly(finale: usize, at: Goto, sheet: &[u8]) -> Step
     ensures { joined result sheet.now ≡ weakly finale at.i at.b at.c sheet.now }
@@ -181,23 +158,14 @@ fn go_third(finale: usize, at: Goto, k: usize, sheet: &[u8]) -> Step
     }
 }
 
-// Is a letter joined with what stands behind it?
-fn joins(c: u8, next: u8) -> bool
-    ensures { result ≡ (eqb next (o "h") && joins_h c) }
-{
-    next == LETTER_H && joins_h(c)
-}
-
 // The second consonant, joined with an h or not.
 #[tactic(auto, unfolding(crate::specs::Middles::second))]
 fn go_second(finale: usize, at: Goto, sheet: &[u8]) -> Step
     ensures { joined result sheet.now ≡ second finale at.i at.b at.c sheet.now }
 {
-    if joins(at.c, code_ahead(sheet, at.i, 1)) {
-        let c = with_h(at.c);
-        go_third(finale, Goto { c, ..at }, 2, sheet)
-    } else {
-        go_third(finale, at, 1, sheet)
+    match join_h(at.c, code_ahead(sheet, at.i, 1)) {
+        Some(c) => go_third(finale, Goto { c, ..at }, 2, sheet),
+        None => go_third(finale, at, 1, sheet),
     }
 }
 
@@ -213,8 +181,7 @@ fn go_pair(finale: usize, at: Goto, sheet: &[u8]) -> Step
         at.to(Label::Checkc, at.i + 1)
     } else if at.b == at.c {
         go_doubled(at, sheet)
-    } else if joins(at.b, at.c) {
-        let b = with_h(at.b);
+    } else if let Some(b) = join_h(at.b, at.c) {
         Goto { b, ..at }.to(Label::Phase4vc, at.i + 1)
     } else if at.c == LETTER_K && at.b == LETTER_C {
         at.to(Label::Marki, at.i + 1)
@@ -245,7 +212,7 @@ fn go_marki(at: Goto, sheet: &mut [u8]) -> Step
     Goto { c, ..at }.to(Label::Vowelscan, at.i)
 }
 
-// From a label to the next.
+// From a label to the next: a match on labels, since the definition `onward` has 004's labels and no routines.
 #[tactic(auto, unfolding(crate::specs::Middles::onward, crate::specs::Middles::scan_vowel, crate::specs::Middles::pass_vowel))]
 fn go_onward(finale: usize, at: Goto, sheet: &mut [u8]) -> Step
     requires { at.i < usize.MAX }
@@ -279,7 +246,7 @@ fn go_onward(finale: usize, at: Goto, sheet: &mut [u8]) -> Step
     }
 }
 
-// Marks the hyphens in the middle of a word of n letters.
+// Marks the hyphens in the middle of a word of n letters. n is for the contract alone: the sheet has it.
 pub fn mark_middle(finale: usize, n: usize, from: Step, sheet: &mut [u8])
     requires { (n ≤ word_limit1980) × Sheet n sheet.old × Placed n from }
     ensures { sheet.new ≡ phase4 n finale (joined from sheet.old) }

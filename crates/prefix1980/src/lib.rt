@@ -10,9 +10,9 @@ ghost use Rattle.prefix1980.specs.Prefixes.{decode, reenter, interpp, phase3};
 ghost use Rattle.prefix1980.specs.Joined.{joined, can_step, step_gives, told, Ready};
 
 use middle1980::{Goto, Label, Step};
-use sheet1980::{Stopped, U, clear_at, code_at};
+use sheet1980::{Stopped, U, clear_at, code_at, is_scanned};
 use std::ops::ControlFlow::{self, Break, Continue};
-use tables1980::{has_bit, prefix_table, word_at};
+use tables1980::{falsex, has_bit, opcode, operand, prefix_table, truex, word_at};
 use turns1980::Machine;
 
 // An instruction word taken apart: operand, truex and falsex, as far as its opcode uses them; a table's whole word.
@@ -62,12 +62,12 @@ impl From<u64> for Instruction {
     ghost from_gives = { λ w x. x ≡ decode w };
 
     fn from(w: u64) -> Self {
-        let t = (w % 512) as u16;
-        match w >> 27 {
+        let t = operand(w);
+        match opcode(w) {
             0 => Instruction::Scan {
                 t,
-                truex: ((w >> 18) % 512) as u16,
-                falsex: ((w >> 9) % 512) as u16,
+                truex: truex(w),
+                falsex: falsex(w),
             },
             2 => Instruction::Table { letters: w },
             4 => Instruction::Vow,
@@ -120,7 +120,7 @@ fn interpret(at: Row, sheet: &mut [u8], x: Instruction) -> Turn
 {
     match x {
         Instruction::Scan { t, truex, falsex } => {
-            let matched = code_at(sheet, at.i) as u16 % 32 == t % 32;
+            let matched = is_scanned(sheet, at.i, t);
             let (i, pc) = if matched {
                 (at.i + 1, truex)
             } else {
@@ -179,7 +179,7 @@ impl Machine for Phase3 {
 }
 
 // Removes the prefixes of a word of n letters, each word fetched taking one instruction of the budget: None where one more instruction is
-// needed than there is budget for; else it goes on with the step to take.
+// needed than there is budget for; else it goes on with the step to take. n is for the contract alone: the sheet has it.
 pub fn remove_prefixes(budget: usize, n: usize, sheet: &mut [u8]) -> Option<Stopped<Step>>
     requires { (short_word1980 < n) × (n ≤ word_limit1980) × Sheet n sheet.old }
     ensures answer { told result sheet.new ≡ phase3 budget sheet.old }

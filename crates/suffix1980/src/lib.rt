@@ -9,9 +9,9 @@ ghost use Rattle.sheet1980.specs.Sheet.{u, place_bound, mem, clear, Sheet};
 ghost use Rattle.suffix1980.specs.Suffixes.{decode, final_at, restarts, marksuf, interps, phase2};
 ghost use Rattle.suffix1980.specs.Joined.{joined, Branched, can_step, step_gives, told, Ready};
 
-use sheet1980::{Stopped, U, clear_at, code_at};
+use sheet1980::{LETTER_D, LETTER_E, Stopped, U, clear_at, code_at, is_scanned};
 use std::ops::ControlFlow::{self, Break, Continue};
-use tables1980::{has_bit, suffix_table, word_at};
+use tables1980::{falsex, has_bit, opcode, operand, suffix_table, truex, word_at};
 use turns1980::Machine;
 
 // An instruction word taken apart: operand, truex and falsex, as far as its opcode uses them.
@@ -54,25 +54,21 @@ impl Row {
 // Where the machine goes: on to a row, or to phase 3 with finale.
 pub type Turn = ControlFlow<usize, Row>;
 
-// The values of finale that are no places (specs/Suffixes.antt: infinity, ed_removed).
+// The values of finale that are no places (specs/Suffixes.antt: infinity, ed_removed). finale is a number and no enum: `final_at` has these
+// two numbers, and `shows` compares finale with places, as 004 does.
 const INFINITY: usize = 1000000;
 
 const ED_REMOVED: usize = 999999;
-
-// The codes of two letters.
-const LETTER_D: u8 = 4;
-
-const LETTER_E: u8 = 5;
 
 #[tactic(auto, unfolding(crate::specs::Suffixes::decode))]
 impl From<u64> for Instruction {
     ghost from_gives = { λ w x. x ≡ decode w };
 
     fn from(w: u64) -> Self {
-        let t = (w % 512) as u16;
-        let falsex = ((w >> 9) % 512) as u16;
-        let truex = ((w >> 18) % 512) as u16;
-        match w >> 27 {
+        let t = operand(w);
+        let truex = truex(w);
+        let falsex = falsex(w);
+        match opcode(w) {
             0 => Instruction::Scan { t, truex, falsex },
             1 => Instruction::Double { truex, falsex },
             2 => Instruction::Table { t, truex, falsex },
@@ -190,7 +186,7 @@ fn interpret(n: usize, at: Row, sheet: &mut [u8], x: Instruction) -> Turn
 {
     match x {
         Instruction::Scan { t, truex, falsex } => {
-            let matched = code_at(sheet, at.i) as u16 % 32 == t % 32;
+            let matched = is_scanned(sheet, at.i, t);
             branch(at, matched, truex, falsex)
         }
         Instruction::Double { truex, falsex } => {

@@ -1,9 +1,10 @@
-// The tables of the 1980 machine: the words of the suffix and the prefix machine and of the consonant pairs, each table behind one reader.
-// CR 4. Each word has 36 bits. specs/ has the same tables in 004's own terms, and each reader's promise joins the two.
+// The tables of the 1980 machine: the words of the suffix and the prefix machine and of the consonant pairs. CR 4. Each word has 36 bits.
+// specs/ has the same tables in 004's own terms: suffix_table, prefix_table, vowel_word and pair_word promise those, and what word_at reads of
+// a table is that table's word by proofs/Readers.antt.
 #![tactic(auto)]
 
 ghost use Rattle.std.specs.Prelude.{◌≡◌, get_or};
-ghost use Rattle.tables1980.specs.Words.{◌ε◌};
+ghost use Rattle.tables1980.specs.Words.{◌ε◌, opcode, truex, falsex, oprand};
 ghost use Rattle.tables1980.specs.Suffix.{suffix_words, suffix};
 ghost use Rattle.tables1980.specs.Prefix.{prefix_words};
 ghost use Rattle.tables1980.specs.Pairs.{btable};
@@ -18,6 +19,9 @@ const PAIR_ROWS: usize = 30;
 
 // How many bits a word has.
 const WORD_BITS: u8 = 36;
+
+// A field of an instruction has nine bits: so many values.
+const FIELD: u64 = 512;
 
 // Three octal digits for each field: opcode, truex, falsex, operand. The letter masks are read bit by bit.
 static SUFFIX: [u64; ROWS] = [
@@ -280,7 +284,7 @@ static PAIRS: [u64; PAIR_ROWS] = [
 ];
 
 // The tables by name: whoever runs a machine reads its table in place, and a proof above sees the list's name and not its numbers.
-// (d) One function for both would only take the table's name as its argument.
+// One function for both would only take the table's name as its argument, which is no plainer.
 pub fn suffix_table() -> &'static [u64; ROWS]
     ensures { result.now ≡ suffix_words }
 {
@@ -293,7 +297,8 @@ pub fn prefix_table() -> &'static [u64; ROWS]
     &PREFIX
 }
 
-// The word of a row, 0 past the table. One reader for both machines: what it gives of each table is in proofs/Readers.antt.
+// The word of a row, 0 past the table: the definitions `suffix` and `prefix` read 0 there, so this is no Option. One reader for both machines:
+// what it gives of each table is in proofs/Readers.antt.
 pub fn word_at(words: &[u64], row: usize) -> u64
     ensures { result ≡ get_or words.now row 0 }
 {
@@ -308,7 +313,7 @@ pub fn vowel_word() -> u64
     SUFFIX[0]
 }
 
-// The pair table's word of a code, 0 where it has none.
+// The pair table's word of a code, 0 where it has none, as the definition `btable` has it (so no Option).
 #[tactic(auto, unfolding(crate::specs::Pairs::btable, crate::specs::Pairs::pair_words))]
 pub fn pair_word(c: u8) -> u64
     ensures { result ≡ btable c }
@@ -317,6 +322,31 @@ pub fn pair_word(c: u8) -> u64
         Some(row) => word_at(&PAIRS, row),
         None => 0,
     }
+}
+
+// The fields of an instruction's word.
+pub fn opcode(w: u64) -> u64
+    ensures { result ≡ opcode w }
+{
+    w >> 27
+}
+
+pub fn truex(w: u64) -> u16
+    ensures { result ≡ truex w }
+{
+    ((w >> 18) % FIELD) as u16
+}
+
+pub fn falsex(w: u64) -> u16
+    ensures { result ≡ falsex w }
+{
+    ((w >> 9) % FIELD) as u16
+}
+
+pub fn operand(w: u64) -> u16
+    ensures { result ≡ oprand w }
+{
+    (w % FIELD) as u16
 }
 
 // Is the bit at a place of a word set, bit 0 being the leading one?

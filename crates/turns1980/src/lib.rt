@@ -28,7 +28,7 @@ pub trait Machine {
 
 // Runs a machine from a row on, each turn taking one instruction of the budget: None where one more instruction is needed than there is
 // budget for.
-#[tactic(auto, unfolding(crate::specs::Turns::turns, crate::specs::Turns::Runs), using(crate::proofs::Laws::turned, crate::proofs::Laws::still))]
+#[tactic(auto, unfolding(crate::specs::Turns::turns, crate::specs::Turns::Runs), using(crate::proofs::Laws::turned, crate::proofs::Laws::still, crate::proofs::Laws::out))]
 pub fn run<M: Machine>(
     machine: &M,
     budget: usize,
@@ -38,13 +38,12 @@ pub fn run<M: Machine>(
     requires { Runs (M.can_step machine.now) (M.step_gives machine.now) budget (Continue first) sheet.old }
     ensures { (result, sheet.new) ≡ turns (M.step_gives machine.now) budget (Continue first) sheet.old }
 {
-    let mut left = budget;
     let mut row = first;
-    loop {
-        left = left.checked_sub(1)?;
+    for left in (0..budget).rev() {
         match machine.step(row, sheet) {
             Continue(next) => row = next,
             Break(next) => return Some(Stopped { left, next }),
         }
     }
+    None
 }
