@@ -76,7 +76,8 @@ fn end_if_fit(ends: bool, apostrophes: bool, line: &[u8], end: usize) -> Option<
     (!apostrophes || apostrophes_fit(ends, line)).then_some(end)
 }
 
-// The line that begins at a place, judged as a pattern line by itself: its form and its end are found in one pass.
+// The line that begins at a place, judged as a pattern line by itself: its form and its end are found in one pass. The loop goes by places of the
+// text, since a place is what is told and what `dot_fits` looks behind.
 pub fn pattern_end(text: &[u8], at: usize) -> Option<usize>
     ensures { result ≡ end_if (good_pattern (first_line (drop at text.now))) (at + line_length (drop at text.now)) }
 {
@@ -138,7 +139,7 @@ pub fn pattern_end(text: &[u8], at: usize) -> Option<usize>
 }
 
 // The same for an exception line. Most bytes are letters, and nothing is kept of them: `run` is where the letters in hand begin, and a
-// line's letters, apostrophes among them, are its bytes without the hyphens.
+// line's letters, apostrophes among them, are its bytes without the hyphens. It goes by places, since `run` and the end that is told are places.
 pub fn exception_end(text: &[u8], at: usize) -> Option<usize>
     ensures { result ≡ end_if (good_exception (first_line (drop at text.now))) (at + line_length (drop at text.now)) }
 {

@@ -20,6 +20,7 @@ pub struct Span {
 }
 
 // Where a word's line stands in the two lists. An Option of the first two would have the reader look twice for the third answer.
+// The two places stand in each, as the definitions have them (`find_either`, `line_of`, `place_of`).
 #[derive(Clone, Copy)]
 pub enum Located {
     Customer { start: usize, end: usize },
@@ -121,14 +122,14 @@ fn same_letters(word: &[u8], line: &[u8], start: usize) -> bool
     same_symbols(word, line, i, j)
 }
 
-// Two bytes in one number, the first one low: as they are read from memory at once.
+// Two bytes in one number, the first one low: by hand, so that the compiler reads both from memory at once.
 fn pair_of(a: u8, b: u8) -> u32
     ensures { result ≡ a + b * 256 }
 {
     a as u32 + b as u32 * PAST_BYTES
 }
 
-// Do two bytes of the word meet two of the line? They are compared at once.
+// Do two bytes of the word meet two of the line? They are compared at once, for speed: two tests would be two branches in every line.
 fn meet_both(a: u8, b: u8, c: u8, d: u8) -> bool
     ensures { result ≡ (eqb (bit_or a 32) c && eqb (bit_or b 32) d) }
 {
@@ -168,6 +169,7 @@ pub fn is_line_of(word: &[u8], line: &[u8]) -> bool
 pub fn find_line(word: &[u8], text: &[u8]) -> Option<Span>
     ensures { result ≡ find word.now text.now }
 {
+    // The place is the answer, and the library's lines don't tell theirs: so it is summed.
     let mut start = 0;
     for line in text.split_inclusive(|b| *b == words::LINE_FEED) {
         let end = start + line.len();
@@ -213,7 +215,8 @@ pub fn locate_line(word: &[u8], customer: &[u8], house: &[u8]) -> Located
     }
 }
 
-// The lookup: the word's line without its line feed, as a part of the list that held it.
+// The lookup: the word's line without its line feed, as a part of the list that held it. No Option: where there is none, or on a refusal, the part
+// is empty, since `line_of` and `place_of` have it so and the C call hands it out.
 pub fn lookup<'a>(word: &[u8], customer: &'a [u8], house: &'a [u8]) -> &'a [u8]
     ensures line { result.now ≡ line_of customer.now house.now (locate word.now customer.now house.now) }
     ensures place { result.ref_ptr ≡ place_of customer.entry.ref_ptr house.entry.ref_ptr (locate word.now customer.now house.now) }
