@@ -17,12 +17,10 @@ impl Breaker for Machine {
 
     ghost ROOM_SIZE = { room_size1980 };
 
+    const NAME: &'static [u8] = b"archive";
+
     fn line_limit() -> usize {
         report::line_limit(base::WORD_LIMIT_1980)
-    }
-
-    fn name() -> &'static [u8] {
-        b"archive"
     }
 
     fn label() -> &'static [u8] {
@@ -37,7 +35,7 @@ impl Breaker for Machine {
 // The first argument is the program's own name.
 fn main(rt: HostRuntime) {
     if console::has_argument(&rt, 1) {
-        console::print_undone(&rt, Machine::name(), Stream::Output);
+        console::print_undone(&rt, Machine::NAME, Stream::Output);
         return;
     }
     let mut held = [0u8; base::WORD_LIMIT_1980 + 1];

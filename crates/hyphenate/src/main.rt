@@ -11,7 +11,8 @@ use hyphenation::Setting;
 use spool::Breaker;
 use writing::Writer;
 
-// Breaks by judged lists and a packed table.
+// Breaks by judged lists and a packed table. Two functions of the impl repeat clauses of the trait: the check gives them to none on a type
+// with a lifetime.
 #[derive(Clone, Copy)]
 struct Lists<'a>(&'a Setting<'a>);
 
@@ -20,14 +21,12 @@ impl<'a> Breaker for Lists<'a> {
 
     ghost ROOM_SIZE = { room_size };
 
+    const NAME: &'static [u8] = b"hyphenate";
+
     fn line_limit() -> usize
         ensures { result ≡ line_limit }
     {
         report::line_limit(base::WORD_LIMIT)
-    }
-
-    fn name() -> &'static [u8] {
-        b"hyphenate"
     }
 
     fn label() -> &'static [u8]
@@ -41,7 +40,8 @@ impl<'a> Breaker for Lists<'a> {
     }
 }
 
-// The words over judged lists and a packed table.
+// The words over judged lists and a packed table. `archive` lends two rooms of its own sizes: they are the Breaker's, and Rattle has no
+// computed const argument by which `spool` could make them.
 fn print_words(rt: &HostRuntime, setting: &Setting) {
     let mut held = [0u8; base::WORD_LIMIT + 1];
     let mut marks = [0u8; base::ROOM_SIZE];
@@ -49,5 +49,5 @@ fn print_words(rt: &HostRuntime, setting: &Setting) {
 }
 
 fn main(rt: HostRuntime) {
-    judged::run(&rt, Lists::name(), |setting| print_words(&rt, setting));
+    judged::run(&rt, Lists::NAME, |setting| print_words(&rt, setting));
 }

@@ -11,7 +11,8 @@ use base::Ground;
 use hyphenation::{Found, Setting};
 use writing::Writer;
 
-// Every line of a word fits into this many bytes: its letters, as many hyphens at most, and the line feed.
+// Every line of a word fits into this many bytes: its letters, as many hyphens at most, and the line feed. A bound, with one byte to spare:
+// a line that tells a refusal fits too.
 pub fn line_limit(word_limit: usize) -> usize
     requires { line_limit_of word_limit ≤ usize.MAX }
     ensures { result ≡ line_limit_of word_limit }
@@ -19,7 +20,7 @@ pub fn line_limit(word_limit: usize) -> usize
     2 * word_limit + 2
 }
 
-// A space and the number of a list, nothing where no list is told.
+// A space and the number of a list, nothing where no list is told: 0, as `list_field` and `told` have it.
 fn put_list(list: u64, w: &mut Writer)
     requires { Fits (list_field list) w.old }
     ensures { Writes (list_field list) w.old w.new }
@@ -73,7 +74,8 @@ pub fn put_line(marks: &[u8], word: &[u8], w: &mut Writer)
 }
 
 // The line of a word, where margins, lists and table were judged before, and the looks that the program sums, none where the word is
-// refused. `marks` is a break room.
+// refused. `marks` is a break room. It, the word and the writer go together here, in `reprint` and in
+// `spool::Breaker` only: a struct of them would be made anew for each word, and taken apart at once.
 pub fn put_word(setting: &Setting, word: &[u8], marks: &mut [u8], w: &mut Writer) -> Option<usize>
     requires { Fits (line_for setting.now.left setting.now.right word.now setting.now.customer.now setting.now.house.now setting.now.table.now (length marks.old)) w.old }
     ensures { Reports setting.now.left setting.now.right word.now setting.now.customer.now setting.now.house.now setting.now.table.now marks.old w.old result marks.new w.new }

@@ -5,29 +5,28 @@
 ghost use Rattle.std.specs.Prelude.{◌≡◌, ℕ, ◌+◌, ◌≤◌, length};
 ghost use Rattle.spool.specs.State.{Grows, Holds, label_limit, piece};
 
-use console::Stream;
+use console::{PIECE, Stream};
 use std::io::Read;
 use writing::Writer;
-
-// A piece of the words is as large as the buffer that it is read into, and so is a piece of the lines (specs/State.antt, piece).
-const PIECE: usize = 65536;
 
 // The last line has no more bytes, its label at most label_limit of them (specs/State.antt).
 const SUMS_LIMIT: usize = 128;
 
-// How a program breaks a word.
+// How a program breaks a word. What has a clause is a function: a constant has none to repeat, where an impl on a type with a lifetime, as
+// `hyphenate` has one, must.
 pub trait Breaker {
     // How many bytes every line of a word fits into, and a break room's.
     ghost LINE_LIMIT: { ℕ };
 
     ghost ROOM_SIZE: { ℕ };
 
+    // The program's name.
+    const NAME: &'static [u8];
+
     fn line_limit() -> usize
         ensures { result ≡ LINE_LIMIT };
 
-    // The program's name, and in its last line that of its sum.
-    fn name() -> &'static [u8];
-
+    // What the program's sum is called in its last line.
     fn label() -> &'static [u8]
         ensures { length result.now ≤ label_limit };
 
@@ -133,7 +132,8 @@ impl<'a, B: Breaker> Spool<'a, B> {
         }
     }
 
-    // Reads a piece of the words, if there is one.
+    // Reads a piece of the words, if there is one. `flow` has a turn like it: one for both would take the step as a closure, whose
+    // contract says of any step what Holds says of this one, and be longer than the two.
     fn read_piece(&mut self, rt: &HostRuntime)
         requires { Holds B.ROOM_SIZE B.LINE_LIMIT self.old }
         ensures { Holds B.ROOM_SIZE B.LINE_LIMIT self.new }
@@ -143,14 +143,15 @@ impl<'a, B: Breaker> Spool<'a, B> {
             Ok(0) => self.stage = Stage::Ended,
             Ok(n) => self.take_piece(rt, &buffer[..n]),
             Err(e) => {
-                console::tell(rt, B::name(), b"standard input", e);
+                console::tell(rt, B::NAME, b"standard input", e);
                 self.stage = Stage::Unread;
             }
         }
     }
 
     // All words, up to the end of the input. What is held then is the last word, unless reading failed: nobody knows how that word goes
-    // on. A proved loop has to end, and nothing says that the input does: so its turns are counted, up to a number that no run reaches.
+    // on. Where a line could not be written it may be a part of a word, but nothing goes out any more. A proved loop has to end, and
+    // nothing says that the input does: so its turns are counted, up to a number that no run reaches.
     fn take_words(&mut self, rt: &HostRuntime)
         requires { Holds B.ROOM_SIZE B.LINE_LIMIT self.old }
         ensures { Holds B.ROOM_SIZE B.LINE_LIMIT self.new }
@@ -183,14 +184,14 @@ fn write_lines<B: Breaker>(rt: &HostRuntime, lines: &[u8], stage: Stage) -> Stag
     match console::write(rt, Stream::Output, lines) {
         Ok(()) => stage,
         Err(e) => {
-            console::tell(rt, B::name(), b"standard output", e);
+            console::tell(rt, B::NAME, b"standard output", e);
             Stage::Lost
         }
     }
 }
 
 // All words, with room for the bytes of a line that are held, and a break room. Without the last line the words were not all read or
-// written.
+// written. PIECE is `piece` of specs/State.antt.
 pub fn print_words<B: Breaker>(rt: &HostRuntime, breaker: &B, held: &mut [u8], marks: &mut [u8])
     requires { (B.ROOM_SIZE ≤ length marks.old) × (B.LINE_LIMIT ≤ piece) }
 {
