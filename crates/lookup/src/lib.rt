@@ -216,7 +216,7 @@ pub fn locate_line(word: &[u8], customer: &[u8], house: &[u8]) -> Located
 }
 
 // The lookup: the word's line without its line feed, as a part of the list that held it. No Option: where there is none, or on a refusal, the part
-// is empty, since `line_of` and `place_of` have it so and the C call hands it out.
+// is empty, as `line_of` and `place_of` have it.
 pub fn lookup<'a>(word: &[u8], customer: &'a [u8], house: &'a [u8]) -> &'a [u8]
     ensures line { result.now ≡ line_of customer.now house.now (locate word.now customer.now house.now) }
     ensures place { result.ref_ptr ≡ place_of customer.entry.ref_ptr house.entry.ref_ptr (locate word.now customer.now house.now) }

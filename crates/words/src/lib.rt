@@ -9,7 +9,7 @@ ghost use Rattle.words.specs.Words.{Rule, Extends, judge_word, is_between, lette
 
 use base::Ground;
 
-// A word that was judged: of at most 63 letters, with apostrophes between them. Whoever makes one has judged it.
+// A word that was judged: of at most `word_limit` bytes, letters with apostrophes between them. Whoever makes one has judged it.
 #[derive(Clone, Copy)]
 pub struct Word<'a> {
     pub bytes: &'a [u8],
