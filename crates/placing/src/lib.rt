@@ -55,39 +55,37 @@ fn first_marked(mask: &[u8; patterns::MASK_SIZE]) -> u8
     base::SYMBOL_LIMIT
 }
 
+// What a base is sought for: the layout so far, and the symbols that want cells.
+#[derive(Clone, Copy)]
+struct Sought<'a> {
+    cells: &'a [u8; table::CELL_ROOM],
+    taken: &'a [u8; base::CELL_LIMIT],
+    mask: &'a [u8; patterns::MASK_SIZE],
+}
+
 // Does a base serve: no path has it, and the cells it needs are free? One symbol's cell is tried first, which decides most bases.
 #[tactic(auto, unfolding(fit::specs::Cells::serves), using(crate::proofs::Laws::serves_used))]
-fn is_serving(
-    cells: &[u8; table::CELL_ROOM],
-    taken: &[u8; base::CELL_LIMIT],
-    mask: &[u8; patterns::MASK_SIZE],
-    base: u16,
-    first: u8,
-) -> bool
+fn is_serving(s: &Sought, base: u16, first: u8) -> bool
     requires { (base < cell_limit) × (1 ≤ first) × (first ≤ symbol_limit) }
-    ensures { result ≡ serves cells.now taken.now (marked mask.now) base }
+    ensures { result ≡ serves s.now.cells.now s.now.taken.now (marked s.now.mask.now) base }
 {
-    if taken[base as usize] != 0 {
+    if s.taken[base as usize] != 0 {
         return false;
     }
-    if mask[first as usize] == 1 && !is_free(cells, base, first) {
+    if s.mask[first as usize] == 1 && !is_free(s.cells, base, first) {
         return false;
     }
-    are_free(cells, mask, base)
+    are_free(s.cells, s.mask, base)
 }
 
 // The smallest base from 1 up that serves, or the limit of cells. No Option: `smallest` and `base_for` have it so, and `is_inside` refuses
 // the limit wherever a symbol is marked.
-fn find_base(
-    cells: &[u8; table::CELL_ROOM],
-    taken: &[u8; base::CELL_LIMIT],
-    mask: &[u8; patterns::MASK_SIZE],
-) -> u16
-    ensures { result ≡ smallest (serves cells.now taken.now (marked mask.now)) 1 (cell_limit - 1) }
+fn find_base(s: &Sought) -> u16
+    ensures { result ≡ smallest (serves s.now.cells.now s.now.taken.now (marked s.now.mask.now)) 1 (cell_limit - 1) }
 {
-    let first = first_marked(mask);
+    let first = first_marked(s.mask);
     (1..base::CELL_LIMIT as u16)
-        .find(|base| is_serving(cells, taken, mask, *base, first))
+        .find(|base| is_serving(s, *base, first))
         .unwrap_or(base::CELL_LIMIT as u16)
 }
 
@@ -166,19 +164,13 @@ fn put_link(cells: &mut [u8; table::CELL_ROOM], root: u16, path: &Path, base: u1
 
 // The base that a path of m symbols gets: the root's is given.
 #[tactic(auto, unfolding(fit::specs::Cells::base_for))]
-fn base_for(
-    root: u16,
-    m: usize,
-    cells: &[u8; table::CELL_ROOM],
-    taken: &[u8; base::CELL_LIMIT],
-    mask: &[u8; patterns::MASK_SIZE],
-) -> u16
-    ensures { result ≡ base_for root m cells.now taken.now (marked mask.now) }
+fn base_for(root: u16, m: usize, s: &Sought) -> u16
+    ensures { result ≡ base_for root m s.now.cells.now s.now.taken.now (marked s.now.mask.now) }
 {
     if m == 0 {
         return root;
     }
-    find_base(cells, taken, mask)
+    find_base(s)
 }
 
 // A mark that a base is taken, where there is such a base.
@@ -205,7 +197,12 @@ fn place_path(
 {
     let mut mask = [0u8; patterns::MASK_SIZE];
     patterns::mark_next(path.own, path.m, path.text, 0, &mut mask);
-    let base = base_for(root, path.m, cells, taken, &mask);
+    let sought = Sought {
+        cells,
+        taken,
+        mask: &mask,
+    };
+    let base = base_for(root, path.m, &sought);
     if !is_inside(&mask, base) {
         return false;
     }

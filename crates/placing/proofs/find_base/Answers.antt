@@ -12,7 +12,7 @@ use Rattle.placing.proofs.find_base.Goals as goal
 
 pub returns : goal.returns
 returns c =
-    let test = serves c.args.cells.now c.args.taken.now (marked c.args.mask.now) in
+    let test = serves c.args.s.now.cells.now c.args.s.now.taken.now (marked c.args.s.now.mask.now) in
     c.unwrap_or.ensures
     ∙ smallest_found test 1 (cell_limit - 1) cell_limit c.find.result refl
     (first_from_Range _ _ _ _ (λ k. test k ≡ true) (λ k. test k ≡ false) c.find.ensures.ran (λ x q k. search (rules, tests)) (λ x q k. search (rules, tests)))
