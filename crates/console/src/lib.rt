@@ -45,7 +45,8 @@ fn read_all(file: &mut File, bytes: &mut [u8]) -> Result<usize>
     Ok(size)
 }
 
-// The bytes of the file at a path, as many as the buffer takes. Where it can't be opened or read, the error says why.
+// The bytes of the file at a path, as many as the buffer takes, told by their count here and below, as the library's `read` tells them. Where it
+// can't be opened or read, the error says why.
 fn read_file(rt: &HostRuntime, path: &[u8], bytes: &mut [u8]) -> Result<usize>
     ensures { IfOk result (λ size. size ≤ length bytes.new) }
 {
@@ -65,7 +66,8 @@ fn words_of(reason: &str) -> &str {
         .map_or(reason, |(words, _)| words)
 }
 
-// Tells on standard error what a program could not use, and why.
+// Tells on standard error what a program could not use, and why. The runtime and the program's name come one by one here and below: a program
+// calls these once or twice, and would make a struct of both for that.
 pub fn tell(rt: &HostRuntime, program: &[u8], what: &[u8], error: Error) {
     let reason = InlineText::<REASON_LIMIT>::of(error);
     complain(rt, program);

@@ -26,7 +26,8 @@ pub struct Flow {
     pub looks: usize,
 }
 
-// A judged word with its breaks. Tells how many cells were looked at for it.
+// A judged word with its breaks. Tells how many cells were looked at for it. Setting and writer come one by one here and below: one is a whole
+// text's, and the other a call's.
 fn put_word(setting: &Setting, word: &Word, out: &mut Writer) -> usize
     requires { out.old.at + room_per_byte * length word.now.bytes.now ≤ length out.old.room.now }
     ensures { Shows (broken setting.now.left setting.now.right setting.now.customer.now setting.now.house.now setting.now.table.now word.now.bytes.now) (word_looks setting.now.customer.now setting.now.house.now setting.now.table.now word.now.bytes.now) out.old result out.new }

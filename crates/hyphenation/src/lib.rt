@@ -24,7 +24,8 @@ pub struct Found {
     pub looks: usize,
 }
 
-// What stays the same from word to word: the margins, the exception lists and the table.
+// What stays the same from word to word: the margins, the exception lists and the table. Promises take its five parts, as the definitions of the
+// calls do.
 #[derive(Clone, Copy)]
 pub struct Setting<'a> {
     pub left: usize,

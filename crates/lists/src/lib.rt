@@ -67,8 +67,8 @@ pub fn judge_size(limit: usize, text: &[u8]) -> Result<(), Ground>
     Ok(())
 }
 
-// A pattern text: 8, then 7. No function of size and lines for both forms, with the ground as a closure: `judge_lists` asks the sizes of two
-// lists before the lines of either, so that it would replace no call.
+// A pattern text: 8, then 7. One function for both forms, with what makes the ground as a closure, is no plainer: it would stand for the two
+// lines here and the two of `judge_exceptions`, and `judge_lists`, which asks the sizes of both its lists first, could not call it.
 pub fn judge_patterns(text: &[u8]) -> Result<(), Ground>
     ensures { says result ≡ first_of (Finds []) (pattern_grounds text.now) }
 {
@@ -91,7 +91,8 @@ pub fn judge_exceptions(list: usize, limit: usize, text: &[u8]) -> Result<(), Gr
     judge_exception_lines(list, text)
 }
 
-// Both exception texts: 8 for either, then 6 for the customer's, then 6 for the house's.
+// Both exception texts: 8 for either, then 6 for the customer's, then 6 for the house's. Two texts and no struct of them: the calls, C's too, and
+// their definitions have two.
 pub fn judge_lists(customer: &[u8], house: &[u8]) -> Result<(), Ground>
     ensures { says result ≡ first_of (Finds []) (list_grounds customer.now house.now) }
 {

@@ -109,7 +109,8 @@ fn fill(
     })
 }
 
-// The same in cells that are a part of a room.
+// The same in cells that are a part of a room. A function of its own: in `lay` the proof lost what becomes of a room of which a part is lent as an
+// array.
 fn fill_part(
     cells: &mut [u8],
     made: &mut [u8; table::ENTRY_ROOM],

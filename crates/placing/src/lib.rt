@@ -184,7 +184,7 @@ fn take_base(taken: &mut [u8; base::CELL_LIMIT], base: u16)
 }
 
 // A path gets its base. Cells, marks and the root's base stay three parameters: of a struct that keeps the lent cells each method would have to
-// promise that it still keeps them. Whether it fits is a Bool here and above: `Placed` has it so.
+// promise that it still keeps them. Whether it fits is a Bool, here and in what calls this, since `Placed` has one.
 #[tactic(auto, using(crate::proofs::Laws::path_full, crate::proofs::Laws::path_fits))]
 fn place_path(
     cells: &mut [u8; table::CELL_ROOM],

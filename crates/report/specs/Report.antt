@@ -55,7 +55,7 @@ abbrev pub refused : Option ℕ → Bool
 refused (Some n) = false
 refused None = true
 
--- Every line of a word fits into this many bytes: its letters, as many hyphens at most, and the line feed.
+-- Every line of a word fits into this many bytes: its letters, at most as many hyphens, and the line feed, with a byte to spare.
 abbrev pub line_limit_of : ℕ → ℕ
 line_limit_of n = 2 * n + 2
 

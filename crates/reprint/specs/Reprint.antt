@@ -44,7 +44,7 @@ said_refused (Refuses t) o = true
 abbrev pub instructions_label : List ℕ
 instructions_label = space ∷ 105 ∷ 110 ∷ 115 ∷ 116 ∷ 114 ∷ 117 ∷ 99 ∷ 116 ∷ 105 ∷ 111 ∷ 110 ∷ 115 ∷ []
 
--- Every line of a word fits into this many bytes: its letters, as many hyphens at most, and the line feed.
+-- Every line of a word fits into this many bytes: its letters, at most as many hyphens, and the line feed, with a byte to spare.
 abbrev pub line_limit1980 : ℕ
 line_limit1980 = line_limit_of word_limit1980
 

@@ -1,8 +1,8 @@
 // When a table is right for a list, as document 01 says it and as the checker computes it: what the checker keeps on its way.
 #![tactic(auto)]
 
-// Where a path ends: its base, and whether it is a leaf, from which nothing goes on. A leaf has a base too, so that an Option of it would
-// have definitions and proofs ask twice (specs/Test.antt, linked).
+// Where a path ends: its base, and whether it is a leaf, from which nothing goes on. A flag and no Option of the base, since the definitions
+// `linked` and `root_at` give each node both (specs/Test.antt).
 #[derive(Clone, Copy)]
 pub struct Node {
     pub leaf: bool,

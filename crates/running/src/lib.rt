@@ -66,7 +66,8 @@ pub fn judge_piece(
     Ok(())
 }
 
-// The grounds of the end, where so many bytes are held: 1, 8, 6, 9, 14.
+// The grounds of the end, where so many bytes are held: 1, 8, 6, 9, 14. The room is asked as for a piece of no bytes, in lines of its own: a function
+// of them would be as long.
 pub fn judge_end(setting: &Setting, held: u8, size: usize) -> Result<(), Ground>
     ensures { says result ≡ first_of (Finds []) (end_grounds setting.now.left setting.now.right setting.now.customer.now setting.now.house.now setting.now.table.now held size) }
 {

@@ -40,11 +40,11 @@ pub fn is_capital(b: u8) -> bool
     b.is_ascii_uppercase()
 }
 
-#[tactic(auto, unfolding(crate::specs::Symbols::letter))]
+#[tactic(auto, unfolding(crate::specs::Symbols::letter, crate::specs::Symbols::small, crate::specs::Symbols::capital))]
 pub fn is_letter(b: u8) -> bool
     ensures { result ≡ letter b }
 {
-    is_small(b) || is_capital(b)
+    b.is_ascii_alphabetic()
 }
 
 // A digit of a pattern, 1 to 9.
@@ -68,7 +68,7 @@ pub fn symbol_of(b: u8) -> u8
     ensures { result ≡ symbol_of b }
 {
     if is_small(b) {
-        return b - 96;
+        return b - (b'a' - 1); // a letter's number, from 1
     }
     if b == DOT {
         return base::EDGE;
