@@ -28,7 +28,7 @@ const RIGHTS: u32 = 512;
 const NOT_PERMITTED: i32 = 1;
 
 // A path in a room of its own: its first bytes. Where a name doesn't fit, the path is the whole room, which no path of the system fills.
-// An array and a size, since a project without a heap has no `PathBuf`.
+// An array and a size: nothing here is put on a heap.
 #[derive(Clone, Copy)]
 struct Path {
     bytes: [u8; PATH_MAX],
