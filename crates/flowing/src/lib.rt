@@ -15,7 +15,7 @@ use words::Word;
 use writing::Writer;
 
 // A text as far as it is taken: the bytes held, how many of their buffer they are (fixed memory, no heap), the run, and the looks so far.
-// The run is the number of `states`, since `Goes` and `flow_held` have it so.
+// The run is a number, which C's state keeps as a byte: `held_by` goes by it, and a piece hands it on as it was.
 // The writer of the output stands beside it: inside, the proof didn't close, as of a `&mut` two structs deep its lender doesn't learn what it
 // ends as.
 #[derive(Clone, Copy)]

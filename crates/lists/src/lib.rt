@@ -10,7 +10,8 @@ ghost use Rattle.lists.specs.Lists.{good_line, judge_lines, size_grounds, bad_pa
 
 use base::Ground;
 
-// What the lines of a list are. A name and no closure for what judges a line: definitions and theorems speak of the two forms.
+// What the lines of a list are. A name and no closure for what judges a line: the definitions `good_line` and `judge_lines` and their theorems
+// speak of the two forms.
 #[derive(Clone, Copy)]
 pub enum Form {
     Patterns,
@@ -42,7 +43,7 @@ pub fn judge_lines(form: Form, text: &[u8]) -> Result<(), usize>
 {
     let mut above = 0;
     let mut at = 0;
-    // Judging a line finds where the next begins; an iterator over lines would read each byte once more to find the same.
+    // `good_end` judges a line and so finds where the next begins: an iterator over lines, which tells the same a second time, is no plainer.
     while at < text.len() {
         let found = good_end(form, text, at);
         let Some(end) = found else {

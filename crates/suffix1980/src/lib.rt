@@ -30,7 +30,7 @@ pub enum Instruction {
     Confusion,
 }
 
-// The machine's registers at a row.
+// The machine's registers at a row, as 004 has them and `interps` takes them: `firsttime` is a register too, and no value's flag.
 #[derive(Clone, Copy)]
 pub struct Row {
     pub i: usize,
