@@ -3,7 +3,7 @@
 #![tactic(auto)]
 
 ghost use Rattle.std.specs.Prelude.{◌≡◌, ℕ, ◌+◌, ◌≤◌, length};
-ghost use Rattle.spool.specs.State.{Grows, Holds, label_limit, piece};
+ghost use Rattle.spool.specs.State.{Grows, label_limit, piece};
 
 use console::{PIECE, Stream};
 use std::io::Read;
@@ -45,7 +45,8 @@ enum Stage {
     Lost,
 }
 
-// How far the words have come: bytes of the present line that are held, a break room, lines not yet written, and the sums.
+// How far the words have come: bytes of the present line that are held, a break room, lines not yet written, and the sums. The bytes held
+// lie in their buffer, the lines not yet written in theirs, and both rooms are large enough for one more word.
 #[derive(Drop)]
 struct Spool<'a, B: Breaker> {
     breaker: &'a B,
@@ -56,6 +57,11 @@ struct Spool<'a, B: Breaker> {
     refused: u64,
     sum: u64,
     stage: Stage,
+
+    ghost within: { held.at ≤ length held.room.now },
+    ghost marked: { B.ROOM_SIZE ≤ length marks.now },
+    ghost filled: { out.at ≤ length out.room.now },
+    ghost roomy: { B.LINE_LIMIT ≤ length out.room.now },
 }
 
 impl<'a, B: Breaker> Spool<'a, B> {
@@ -67,7 +73,6 @@ impl<'a, B: Breaker> Spool<'a, B> {
         out: &'a mut [u8],
     ) -> Spool<'a, B>
         requires { (B.ROOM_SIZE ≤ length marks.old) × (B.LINE_LIMIT ≤ length out.old) }
-        ensures { Holds B.ROOM_SIZE B.LINE_LIMIT result }
     {
         Spool {
             breaker,
@@ -83,9 +88,7 @@ impl<'a, B: Breaker> Spool<'a, B> {
 
     // Writes the lines that are ready where another might not fit behind them.
     fn make_space(&mut self, rt: &HostRuntime)
-        requires { Holds B.ROOM_SIZE B.LINE_LIMIT self.old }
-        ensures holds { Holds B.ROOM_SIZE B.LINE_LIMIT self.new }
-        ensures roomy { self.new.out.at + B.LINE_LIMIT ≤ length self.new.out.room.now }
+        ensures { self.new.out.at + B.LINE_LIMIT ≤ length self.new.out.room.now }
     {
         if self.out.room.len() - self.out.at < B::line_limit() {
             self.stage = write_lines::<B>(rt, self.out.written(), self.stage);
@@ -94,10 +97,7 @@ impl<'a, B: Breaker> Spool<'a, B> {
     }
 
     // The line has ended: its word's line is made ready.
-    fn end_line(&mut self, rt: &HostRuntime)
-        requires { Holds B.ROOM_SIZE B.LINE_LIMIT self.old }
-        ensures { Holds B.ROOM_SIZE B.LINE_LIMIT self.new }
-    {
+    fn end_line(&mut self, rt: &HostRuntime) {
         self.make_space(rt);
         match self
             .breaker
@@ -111,10 +111,7 @@ impl<'a, B: Breaker> Spool<'a, B> {
     }
 
     // One byte of the words. Only the first bytes of a line are held: where it has more of them than a word may have, they show it.
-    fn take_byte(&mut self, rt: &HostRuntime, b: u8)
-        requires { Holds B.ROOM_SIZE B.LINE_LIMIT self.old }
-        ensures { Holds B.ROOM_SIZE B.LINE_LIMIT self.new }
-    {
+    fn take_byte(&mut self, rt: &HostRuntime, b: u8) {
         if b == words::LINE_FEED {
             self.end_line(rt);
         } else if self.held.at < self.held.room.len() {
@@ -123,21 +120,15 @@ impl<'a, B: Breaker> Spool<'a, B> {
     }
 
     // A piece of the words.
-    fn take_piece(&mut self, rt: &HostRuntime, piece: &[u8])
-        requires { Holds B.ROOM_SIZE B.LINE_LIMIT self.old }
-        ensures { Holds B.ROOM_SIZE B.LINE_LIMIT self.new }
-    {
+    fn take_piece(&mut self, rt: &HostRuntime, piece: &[u8]) {
         for b in piece {
             self.take_byte(rt, *b);
         }
     }
 
     // Reads a piece of the words, if there is one. `flow` has a turn like it: one for both would take the step as a closure, whose
-    // contract says of any step what Holds says of this one, and be longer than the two.
-    fn read_piece(&mut self, rt: &HostRuntime)
-        requires { Holds B.ROOM_SIZE B.LINE_LIMIT self.old }
-        ensures { Holds B.ROOM_SIZE B.LINE_LIMIT self.new }
-    {
+    // contract says of any step what the ghost fields say of this one, and be longer than the two.
+    fn read_piece(&mut self, rt: &HostRuntime) {
         let mut buffer = [0u8; PIECE];
         match rt.stdin().read(&mut buffer) {
             Ok(0) => self.stage = Stage::Ended,
@@ -152,10 +143,7 @@ impl<'a, B: Breaker> Spool<'a, B> {
     // All words, up to the end of the input. What is held then is the last word, unless reading failed: nobody knows how that word goes
     // on. Where a line could not be written it may be a part of a word, but nothing goes out any more. A proved loop has to end, and
     // nothing says that the input does: so its turns are counted, up to a number that no run reaches.
-    fn take_words(&mut self, rt: &HostRuntime)
-        requires { Holds B.ROOM_SIZE B.LINE_LIMIT self.old }
-        ensures { Holds B.ROOM_SIZE B.LINE_LIMIT self.new }
-    {
+    fn take_words(&mut self, rt: &HostRuntime) {
         for _ in 0..u64::MAX {
             self.read_piece(rt);
             if self.stage != Stage::Reading {
