@@ -4,6 +4,7 @@
 
 mod status;
 
+ghost use Rattle.std.specs.Prelude.{IfOk, IfSome};
 ghost use Rattle.io.specs.Counts.{IsPrefixLen};
 
 use paths::{NO_TEXT, PATH_MAX};
@@ -26,35 +27,6 @@ const RIGHTS: u32 = 512;
 // The system's number for what isn't allowed. A number and no kind, which is no plainer: number 13 is `PermissionDenied` too, and isn't
 // passed over.
 const NOT_PERMITTED: i32 = 1;
-
-// A path in a room of its own: its first bytes. Where a name doesn't fit, the path is the whole room, which no path of the system fills.
-// An array and a size: nothing here is put on a heap.
-#[derive(Clone, Copy)]
-struct Path {
-    bytes: [u8; PATH_MAX],
-    size: usize,
-
-    ghost within: { IsPrefixLen size bytes },
-}
-
-impl Path {
-    fn new(name: &[u8]) -> Path {
-        let mut bytes = [0u8; PATH_MAX];
-        let size = paths::put_name(name, &mut bytes, 0);
-        Path { bytes, size }
-    }
-
-    // A name in the folder of a path.
-    fn beside(path: &[u8], name: &[u8]) -> Path {
-        let mut bytes = [0u8; PATH_MAX];
-        let size = paths::put_beside(path, name, &mut bytes);
-        Path { bytes, size }
-    }
-
-    fn as_bytes(&self) -> &[u8] {
-        &self.bytes[..self.size]
-    }
-}
 
 // Do two names stand for one file?
 pub fn is_same(rt: &HostRuntime, a: &[u8], b: &[u8]) -> bool {
@@ -101,11 +73,11 @@ fn fill(file: &mut File, bytes: &[u8], old: Option<&Metadata>) -> Result<()> {
     file.sync_all()
 }
 
-// A new file and its name.
+// A new file and its name's size.
 #[derive(Drop)]
 struct Made {
     file: File,
-    name: Path,
+    size: usize,
 }
 
 // Makes a file that isn't there yet.
@@ -116,14 +88,17 @@ fn create(rt: &HostRuntime, path: &[u8]) -> Result<File> {
         .open(rt, paths::as_text(path)?)
 }
 
-// Makes a file of a fresh name in the folder of a path.
-fn make_beside(rt: &HostRuntime, path: &[u8]) -> Result<Made> {
-    let mut fresh = [0u8; NAME_SIZE];
-    rt.fill_bytes(&mut fresh)?;
-    paths::put_fresh(&mut fresh);
-    let name = Path::beside(path, &fresh);
-    let file = create(rt, name.as_bytes())?;
-    Ok(Made { file, name })
+// Makes a file in the folder of a path, and puts its name into a room. Paths stand in rooms of the caller, here and below: a struct of a path was
+// tried, and its copies took more stack than `pack` has where it is given 160 KB.
+fn make_beside(rt: &HostRuntime, path: &[u8], room: &mut [u8]) -> Result<Made>
+    ensures { IfOk result (λ made. IsPrefixLen made.size room.new) }
+{
+    let mut name = [0u8; NAME_SIZE];
+    rt.fill_bytes(&mut name)?;
+    paths::put_fresh(&mut name);
+    let size = paths::put_beside(path, &name, room);
+    let file = create(rt, &room[..size])?;
+    Ok(Made { file, size })
 }
 
 // Opens a file or a folder for reading.
@@ -134,8 +109,9 @@ fn open_read(rt: &HostRuntime, path: &[u8]) -> Result<File> {
 // The new name is on the disk too. The file stands by then: where its folder can't be flushed, a power cut brings the old one back,
 // and that one is whole.
 fn flush_folder(rt: &HostRuntime, path: &[u8]) {
-    let name = Path::beside(path, b".");
-    if let Ok(folder) = open_read(rt, name.as_bytes()) {
+    let mut name = [0u8; PATH_MAX];
+    let size = paths::put_beside(path, b".", &mut name);
+    if let Ok(folder) = open_read(rt, &name[..size]) {
         let _ = folder.sync_all();
     }
 }
@@ -168,14 +144,15 @@ fn replace(rt: &HostRuntime, path: &[u8], bytes: &[u8], old: Option<&Metadata>) 
     if old.is_some() {
         check_writable(rt, path)?;
     }
-    let Made { file, name } = make_beside(rt, path)?;
-    match take_name(rt, file, name.as_bytes(), path, bytes, old) {
+    let mut name = [0u8; PATH_MAX];
+    let Made { file, size } = make_beside(rt, path, &mut name)?;
+    match take_name(rt, file, &name[..size], path, bytes, old) {
         Ok(()) => {
             flush_folder(rt, path);
             Ok(())
         }
         Err(e) => {
-            unlink(rt, name.as_bytes())?;
+            unlink(rt, &name[..size])?;
             Err(e)
         }
     }
@@ -187,38 +164,45 @@ fn is_no_text(error: &Error) -> bool {
 }
 
 // The text of a link, none where the name is no link's. A link whose text can't be had is an error, since the link must stay.
-fn read_link(rt: &HostRuntime, path: &[u8]) -> Result<Option<Path>> {
+fn read_link(rt: &HostRuntime, path: &[u8], text: &mut [u8]) -> Result<Option<usize>>
+    ensures { IfOk result (λ told. IfSome told (λ size. IsPrefixLen size text.new)) }
+{
     match fs::read_link(rt, paths::as_text(path)?) {
         Ok(link) if link.as_str().is_empty() => Ok(None),
-        Ok(link) => Ok(Some(Path::new(link.as_str().as_bytes()))),
+        Ok(link) => Ok(Some(paths::put_name(link.as_str().as_bytes(), text, 0))),
         Err(e) if is_no_text(&e) => Err(Error::from_raw_os_error(NO_TEXT)),
         Err(e) if e.kind() == ErrorKind::OutOfMemory => Err(e),
         Err(_) => Ok(None),
     }
 }
 
-// Follows one link: the path that a link's name stands for. None where the path is no link's or the system tells of none, and an error
-// where the path can't be handed to the system, the link's text is none, or there was no memory for it.
-fn follow_once(rt: &HostRuntime, path: &Path) -> Result<Option<Path>> {
-    let Some(text) = read_link(rt, path.as_bytes())? else {
+// Follows one link: where the path in the room is a link's, the path that it stands for is put in its place, and the answer is its size;
+// where it doesn't fit, the whole room's, which is longer than any path. The answer is None where the path is no link's or the system
+// tells of none, and an error where the path can't be handed to the system, the link's text is none, or there was no memory for it.
+fn follow_once(rt: &HostRuntime, room: &mut [u8], size: usize) -> Result<Option<usize>>
+    requires { IsPrefixLen size room.old }
+    ensures { IfOk result (λ told. IfSome told (λ next. IsPrefixLen next room.new)) }
+{
+    let mut text = [0u8; PATH_MAX];
+    let Some(n) = read_link(rt, &room[..size], &mut text)? else {
         return Ok(None);
     };
-    let at = paths::link_start(path.as_bytes(), text.as_bytes());
-    let mut bytes = path.bytes;
-    let size = paths::put_name(text.as_bytes(), &mut bytes, at);
-    Ok(Some(Path { bytes, size }))
+    let at = paths::link_start(&room[..size], &text[..n]);
+    Ok(Some(paths::put_name(&text[..n], room, at)))
 }
 
-// The path that a name stands for, where the last of its links leads: there the file is replaced, and the links stay.
-fn follow(rt: &HostRuntime, name: &[u8]) -> Result<Path> {
-    let mut path = Path::new(name);
+// Puts into a room the path that a name stands for, where the last of its links leads: there the file is replaced, and the links stay.
+fn follow(rt: &HostRuntime, path: &[u8], room: &mut [u8]) -> Result<usize>
+    ensures { IfOk result (λ size. IsPrefixLen size room.new) }
+{
+    let mut size = paths::put_name(path, room, 0);
     for _ in 0..LINK_LIMIT {
-        let Some(next) = follow_once(rt, &path)? else {
+        let Some(next) = follow_once(rt, room, size)? else {
             break;
         };
-        path = next;
+        size = next;
     }
-    Ok(path)
+    Ok(size)
 }
 
 // Nothing may stand under the name, so that a file can be made there. Where the system can't say so, the error tells why. A file that it
@@ -238,8 +222,9 @@ fn replace_linked(
     bytes: &[u8],
     old: Option<&Metadata>,
 ) -> Result<()> {
-    let target = follow(rt, path)?;
-    replace(rt, target.as_bytes(), bytes, old)
+    let mut room = [0u8; PATH_MAX];
+    let n = follow(rt, path, &mut room)?;
+    replace(rt, &room[..n], bytes, old)
 }
 
 // Bytes into the file of a name: a regular file is replaced, whatever else has the name is written through. Where it fails, the error
