@@ -48,10 +48,8 @@ pub struct Stopped<T> {
 pub fn code_at(sheet: &[u8], i: usize) -> u8
     ensures { result ≡ mem sheet.now i }
 {
-    match i.checked_sub(U) {
-        Some(at) => sheet.get(at).copied().unwrap_or(0),
-        None => 0,
-    }
+    i.checked_sub(U)
+        .map_or(0, |at| sheet.get(at).copied().unwrap_or(0))
 }
 
 // The code k places on, 0 outside for the same reason. A sum too large for a usize is outside the sheet as well.
