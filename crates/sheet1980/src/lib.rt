@@ -67,7 +67,7 @@ pub fn is_scanned(sheet: &[u8], i: usize, t: u16) -> bool
     code_at(sheet, i) as u16 % 32 == t % 32
 }
 
-// Clears a place; outside the sheet nothing is done.
+// Clears a place; outside the sheet nothing is done. By index: `get_mut` promises nothing of what the slice ends as.
 #[tactic(auto, unfolding(crate::specs::Sheet::clear))]
 pub fn clear_at(sheet: &mut [u8], i: usize)
     ensures { sheet.new ≡ clear sheet.old i }
