@@ -77,10 +77,7 @@ fn is_other(b: u8) -> bool
 fn letters_in(b: u8) -> usize
     ensures { result ≡ cond (small b) 1 0 }
 {
-    if words::is_small(b) {
-        return 1;
-    }
-    0
+    usize::from(words::is_small(b))
 }
 
 // Has the line, from a place on, the symbols of the word from its place on? This serves every line.

@@ -51,8 +51,7 @@ pub fn as_text(path: &[u8]) -> Result<&str>
     }
 }
 
-// How many bytes of a path name its folder. A match, since each way has its law (`slash_at`, `slash_nowhere`): with `map_or` the proof
-// didn't close.
+// How many bytes of a path name its folder. A match: with `map_or`, the wrong program that names no folder fell by a limit of the search.
 pub fn folder_size(path: &[u8]) -> usize
     ensures value { result ≡ folder_size path.now }
     ensures prefix_len { IsPrefixLen result path.now }

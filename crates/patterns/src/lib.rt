@@ -126,7 +126,8 @@ pub fn shared(a: &[u8], b: &[u8]) -> usize
     at.shared
 }
 
-// A mark in a mask, where it has that place: 1 and no bool, since `next_mask` sets 1 in a list of bytes.
+// A mark in a mask, where it has that place: 1 and no bool, since `next_mask` sets 1 in a list of bytes. By index: `get_mut` promises nothing
+// of what the slice ends as.
 fn mark_symbol(mask: &mut [u8], symbol: u8)
     ensures { mask.new ≡ set mask.old symbol 1 }
 {

@@ -173,7 +173,7 @@ fn base_for(root: u16, m: usize, s: &Sought) -> u16
     find_base(s)
 }
 
-// A mark that a base is taken, where there is such a base.
+// A mark that a base is taken, where there is such a base. By index: `get_mut` promises nothing of what the slice ends as.
 fn take_base(taken: &mut [u8; base::CELL_LIMIT], base: u16)
     ensures { taken.new ≡ set taken.old base 1 }
 {

@@ -21,7 +21,8 @@ pub fn clear_from(room: &mut [u8], from: usize, width: usize)
     room[from..width].fill(0);
 }
 
-// The first n of some bytes put into a room from a place on; every other byte of it stays.
+// The first n of some bytes put into a room from a place on; every other byte of it stays. n is told, since the bytes may stand in a larger
+// room of their own, as a packed table's entries do.
 pub fn copy_to(room: &mut [u8], at: usize, bytes: &[u8], n: usize)
     requires { (at + n ≤ length room.old) × (n ≤ length bytes.now) }
     ensures { room.new ≡ paste room.old at bytes.now n }

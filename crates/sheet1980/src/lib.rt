@@ -48,10 +48,8 @@ pub struct Stopped<T> {
 pub fn code_at(sheet: &[u8], i: usize) -> u8
     ensures { result ≡ mem sheet.now i }
 {
-    match i.checked_sub(U) {
-        Some(at) => sheet.get(at).copied().unwrap_or(0),
-        None => 0,
-    }
+    i.checked_sub(U)
+        .map_or(0, |at| sheet.get(at).copied().unwrap_or(0))
 }
 
 // The code k places on, 0 outside for the same reason. A sum too large for a usize is outside the sheet as well.
@@ -69,7 +67,7 @@ pub fn is_scanned(sheet: &[u8], i: usize, t: u16) -> bool
     code_at(sheet, i) as u16 % 32 == t % 32
 }
 
-// Clears a place; outside the sheet nothing is done.
+// Clears a place; outside the sheet nothing is done. By index: `get_mut` promises nothing of what the slice ends as.
 #[tactic(auto, unfolding(crate::specs::Sheet::clear))]
 pub fn clear_at(sheet: &mut [u8], i: usize)
     ensures { sheet.new ≡ clear sheet.old i }

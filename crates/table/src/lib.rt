@@ -113,7 +113,8 @@ pub fn number_at(bytes: &[u8], at: usize) -> u16
     u16::from_be_bytes([bytes[at], byte_at(bytes, at + 1)])
 }
 
-// A number of two bytes written where there is room for them.
+// A number of two bytes, each of them written where there is room for it: so the definition has it, where `copy_from_slice` puts both. By
+// index: `get_mut` promises nothing of what the slice ends as.
 #[tactic(auto, using(crate::proofs::Laws::halves, crate::proofs::Laws::put_past, crate::proofs::Laws::put_half, crate::proofs::Laws::put_both))]
 pub fn put_number(bytes: &mut [u8], at: usize, n: u16)
     ensures { bytes.new ≡ put_number at n bytes.old }
@@ -239,7 +240,8 @@ pub fn look_at(cells: &[u8], base: u16, symbol: u8) -> Option<Cell>
     })
 }
 
-// The entry numbered k.
+// The entry numbered k. By offsets: with a slice pattern the proof didn't close, as its bytes are those of a part and the definition's are the
+// list's.
 #[tactic(auto, using(crate::proofs::Laws::entry_none, crate::proofs::Laws::entry_past, crate::proofs::Laws::entry_kind_lem, crate::proofs::Laws::entry_has))]
 pub fn entry_at(entries: &[u8], k: u16) -> Option<Entry>
     ensures { result ≡ entry_at entries.now k }

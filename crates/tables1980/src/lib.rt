@@ -318,10 +318,9 @@ pub fn vowel_word() -> u64
 pub fn pair_word(c: u8) -> u64
     ensures { result ≡ btable c }
 {
-    match (c as usize).checked_sub(FIRST_PAIR) {
-        Some(row) => word_at(&PAIRS, row),
-        None => 0,
-    }
+    (c as usize)
+        .checked_sub(FIRST_PAIR)
+        .map_or(0, |row| word_at(&PAIRS, row))
 }
 
 // The fields of an instruction's word.
