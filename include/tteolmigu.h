@@ -32,8 +32,8 @@
  * a double and no two operations become one; tests/floats holds it to that.
  *
  * Stack. Pack takes at most TTEOLMIGU_PACK_STACK bytes, piece and end at most TTEOLMIGU_PIECE_STACK, 1980 at most TTEOLMIGU_1980_STACK
- * and every other call at most TTEOLMIGU_STACK, whatever texts and tables hold; as compiled today these are 18,708 bytes for pack, 1,368
- * for piece, 1,288 for end, 1,136 for 1980, 760 for hyphenate, 376 for levels, 372 for check, 244 for lookup and at most 64 for fit. No
+ * and every other call at most TTEOLMIGU_STACK, whatever texts and tables hold; as compiled today these are 18,648 bytes for pack, 1,266
+ * for piece, 1,138 for end, 280 for 1980, 786 for hyphenate, 354 for levels, 360 for check, 240 for lookup and at most 64 for fit. No
  * function calls itself, so that a chain of 2,048 entries takes no more than a single entry, and a long piece no more than a short one.
  * This isn't proved; tests/stack holds the archive to it, with the longest chains and the fullest lists. Where a program's symbols are
  * bound lazily, the loader takes stack of its own besides, once, at the first memset or memcpy.
@@ -125,7 +125,7 @@ extern "C" {
 #define TTEOLMIGU_STACK 1024u        /* hyphenate, levels, check, lookup and fit */
 #define TTEOLMIGU_PACK_STACK 20480u  /* pack, which has its arrays there */
 #define TTEOLMIGU_PIECE_STACK 2048u  /* piece and end */
-#define TTEOLMIGU_1980_STACK 1536u   /* 1980, which has its tables there */
+#define TTEOLMIGU_1980_STACK 1536u   /* 1980 */
 
 /* The numbers of the grounds, as listed above. */
 enum tteolmigu_ground {
