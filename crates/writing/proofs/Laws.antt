@@ -1,20 +1,22 @@
 -- One law for each way through the code, and how long what is written may be.
-use Prim.Native.Nat.{ℕ, zero, suc, ◌+◌, ◌*◌, ◌-◌, ◌/◌, ◌≤◌}
+use Prim.Native.Nat.{ℕ, zero, suc, ◌+◌, ◌*◌, ◌-◌, ◌/◌, ◌≤◌, ◌<◌}
 use mathlib.Core.Bool.{Bool, true, false, cond}
 use mathlib.Core.List.{List, [], ◌∷◌, ◌++◌, append_assoc}
 use mathlib.Core.Path.{◌≡◌, refl, sym, ◌∙◌, ap}
 use native.Mathlib.Nat.{mul-suc}
+use native.Mathlib.Numerals.{add-one}
 use native.Mathlib.Omega.{arith}
 use borrow.Author.Tests.{eq-eqb, ne_eqb}
 use lib.Dec.{eqb, ltb}
-use lib.ListN.{length, take, drop, length-append}
-use lib.Seq.{drop-drop, sets-eq}
+use lib.ListN.{length, get_or, take, drop, set, length-append, length-set}
+use lib.Seq.{drop-drop, sets, sets-eq, take-suc, take-length}
+use Rattle.std.proofs.Common.{length-take-le}
 use borrow.Rule.Slice.PartMut.{put_mid}
 use Rattle.writing.specs.Put.{Put}
 use Rattle.writing.specs.Writing.{last_digit, digits, field, counted, letter_with, hyphenated}
 use Rattle.writing.specs.Written.{Fits, Writes}
 use Rattle.writing.specs.declared.Writer.{Writer}
-use Rattle.writing.proofs.Parts.{Going, go_fits, go_step}
+use Rattle.writing.proofs.Parts.{Going, go_fits, go_step, sets_append}
 
 -- a letter
 pub letter_plain : (sign : List ℕ) (mark b : ℕ) → mark ≡ 0 → letter_with sign mark b ≡ b ∷ []
@@ -50,6 +52,38 @@ pub text_put : (text : List ℕ) (at : ℕ) (room : List ℕ) → at + length te
 text_put text at room h e =
     let n : at + length text - at ≡ length text = omega arith in
     record { fits = h; ends = refl; memory = rw (e, n, drop-drop (length text) at room) (sym (sets-eq text room at h ∙ append_assoc (take at room) text (drop (at + length text) room))) }
+
+-- a text of which the bytes before place i were put, behind the place where it begins
+pub record Begun (text : List ℕ) (a b : Writer) (i : ℕ) : Type 0 where
+  pub room : b.room.ghost_name ≡ a.room.ghost_name
+  pub at : b.at ≡ a.at
+  pub size : length b.room.now ≡ length a.room.now
+  pub memory : b.room.now ≡ sets a.room.now a.at (take i text)
+
+pub text_start : (text : List ℕ) (a : Writer) → Begun text a a 0
+text_start text a = record { room = refl; at = refl; size = refl; memory = refl }
+
+module _ (text : List ℕ) (a b : Writer) (i : ℕ) (g : Begun text a b i) where
+  pub byte_fits : Fits text a → i < length text → b.at + i < length b.room.now
+  byte_fits f h = omega (arith, f, h, g.at, g.size)
+
+  pub text_turn : i < length text → {c : Writer} → c.room.ghost_name ≡ b.room.ghost_name → c.at ≡ b.at → c.room.now ≡ set b.room.now (b.at + i) (get_or text i 0) → Begun text a c (i + 1)
+  text_turn h r e m =
+      let n : length (take i text) ≡ i = length-take-le i text (omega (arith, h)) in
+      record {
+        room = r ∙ g.room;
+        at = e ∙ g.at;
+        size = rw m (length-set b.room.now (b.at + i) (get_or text i 0)) ∙ g.size;
+        memory = rw (m, g.memory, g.at, add-one, take-suc text i 0 h) (sym (sets_append (take i text) (get_or text i 0 ∷ []) a.room.now a.at ∙ rw n refl));
+      }
+
+  pub text_end : Fits text a → i ≡ length text → {c : Writer} → c.room.ghost_name ≡ b.room.ghost_name → c.at ≡ b.at + length text → c.room.now ≡ b.room.now → Writes text a c
+  text_end f e r p m =
+      record {
+        room = r ∙ g.room;
+        size = ap length m ∙ g.size;
+        put = record { fits = f; ends = p ∙ rw g.at; memory = m ∙ g.memory ∙ rw (e, take-length text) };
+      }
 
 -- of two lists, whichever it is, neither is longer
 pub either_short : (b : Bool) (x y : List ℕ) (n : ℕ) → length x ≤ n → length y ≤ n → length (cond b x y) ≤ n
