@@ -76,10 +76,10 @@ pub levels_found : (word table room : List ℕ) {judged judgement : Check} {cell
     → Answered judgement (level_sheet (cells_of table) (entries_of table) root_base word) (word_looks (cells_of table) root_base word) room (Ok f) (part ++ drop room_size room)
 levels_found word table room p q t f = answered room p q (rw (← t.0, ← t.1, ← t.2) f)
 
-pub breaks_found : (left right : ℕ) (word customer house table room : List ℕ) {judged judgement : Check} {part : List ℕ} {f : Found} → judged ≡ judgement → judged ≡ Ok tt
-    → BreaksFound left right word customer house (cells_of table) (entries_of table) root_base f part
+pub breaks_found : (left right : ℕ) (word customer house table room : List ℕ) {judged judgement : Check} {cells entries part : List ℕ} {root : ℕ} {f : Found} → judged ≡ judgement → judged ≡ Ok tt
+    → (cells ≡ cells_of table) × (entries ≡ entries_of table) × (root ≡ root_base) → BreaksFound left right word customer house cells entries root f part
     → Answered judgement (breaks_sheet left right word customer house table) (breaks_looks word customer house table) room (Ok f) (part ++ drop room_size room)
-breaks_found left right word customer house table room p q f = answered room p q f
+breaks_found left right word customer house table room p q t f = answered room p q (rw (← t.0, ← t.1, ← t.2) f)
 
 pub word_alone_sizes : (word : List ℕ) (size : ℕ) {judged : Check} → judged ≡ judge_word_alone word size → judged ≡ Ok tt → (judge_word word_limit word ≡ Ok tt) × (room_size ≤ size)
 unfolding judge_word_alone

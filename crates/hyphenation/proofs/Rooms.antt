@@ -5,22 +5,25 @@ use mathlib.Core.List.{List, [], ◌∷◌, append-nil}
 use mathlib.Core.Path.{◌≡◌, refl, sym, ◌∙◌, ap}
 use native.Mathlib.Decide.{dec_lt}
 use native.Mathlib.Omega.{arith}
-use borrow.Author.Tests.{lt-ltb, ltb-true}
-use lib.Dec.{ltb, eqb}
+use borrow.Author.Tests.{lt-ltb, le-ltb, ltb-true}
+use lib.Dec.{leb, ltb, eqb}
 use lib.ListN.{length, get_or, take, drop, set, replicate, length-set, length-replicate, get_or-replicate}
-use lib.Seq.{get_or-set_same, get_or-set_other, take_all}
-use Rattle.base.specs.Limits.{room_size}
+use lib.Seq.{paste, get_or-set_same, get_or-set_other, take_all}
+use Rattle.base.specs.Limits.{room_size, word_limit}
 use Rattle.rooms.specs.Rooms.{sheet_from, sheet, written, bit}
 use Rattle.rooms.proofs.Marks.{put_start, put_turn, put_end}
-use Rattle.rooms.proofs.Sheets.{sheet_same, take_sheet}
+use Rattle.rooms.proofs.Sheets.{sheet_same, take_sheet, written_length, written_low, written_high, written_is}
+use Rattle.rooms.proofs.Laws.{copied_sheet}
 use Rattle.words.specs.Symbols.{hyphen}
-use Rattle.words.specs.Words.{row_of}
+use Rattle.words.specs.Words.{row_of, inner}
 use Rattle.lookup.specs.Find.{find_either}
 use Rattle.lookup.specs.declared.Located.{Located}
 use Rattle.lookup.specs.declared.Located.TheVariants.{Customer, House, Nowhere}
 use Rattle.hyphenation.specs.Breaks.{break_by, is_break, mark_hyphens, break_sheet, unless_listed, break_looks}
 use Rattle.liang.specs.Breaks.{hyphen_at, in_margins, line_break, level_break}
+use Rattle.walk.specs.Chain.{Setting}
 use Rattle.walk.specs.Walk.{settings}
+use Rattle.walk.specs.Raise.{raise_all}
 use Rattle.walk.specs.Post.{Walked}
 use Rattle.walk.proofs.Laws.{raises_length}
 use Rattle.walk.proofs.Raised.{raised_at}
@@ -32,6 +35,11 @@ use Rattle.hyphenation.proofs.Laws.{break_left, break_right, break_outer}
 pub record Done (bytes : List ℕ) (looks : ℕ) (count : ℕ) (after : List ℕ) : Type 0 where
   pub counted : count ≡ looks
   pub memory : after ≡ bytes
+
+-- a sheet written into the first bytes of a room of any size, and a count of looks returned.
+pub record DoneIn (bytes : List ℕ) (looks : ℕ) (room : List ℕ) (count : ℕ) (after : List ℕ) : Type 0 where
+  pub counted : count ≡ looks
+  pub memory : after ≡ written room_size bytes room
 
 -- the breaks by the levels alone
 unfoldable pub odd_sheet : ℕ → ℕ → List ℕ → List ℕ → ℕ → List ℕ → List ℕ
@@ -63,13 +71,63 @@ module _ (cells entries : List ℕ) (root : ℕ) (word : List ℕ) {count : ℕ}
         memory = sheet_is (level_at cells entries root word) levels (ap length w.raised ∙ raises_length _ _ _ ∙ length-replicate {A = ℕ} room_size 0) raised_byte;
       }
 
-  pub breaks_put : (left right : ℕ) {after : List ℕ} → after ≡ sheet room_size (λ i. bit (level_break left right (length word) (λ k. get_or levels k 0) i))
+  pub breaks_done : (left right : ℕ) {after : List ℕ} → after ≡ sheet room_size (λ i. bit (level_break left right (length word) (λ k. get_or levels k 0) i))
       → Done (odd_sheet left right cells entries root word) (word_looks cells root word) count after
   unfolding odd_sheet word_looks
-  breaks_put left right e = record { counted = w.counted; memory = e ∙ sheet_same room_size _ _ same }
+  breaks_done left right e = record { counted = w.counted; memory = e ∙ sheet_same room_size _ _ same }
     where
       same : (i : ℕ) → i < room_size → bit (level_break left right (length word) (λ k. get_or levels k 0) i) ≡ bit (level_break left right (length word) (level_at cells entries root word) i)
       same i k = unfold level_break in rw (raised_byte i k)
+
+-- the levels raised in a room of any size
+module _ (cells entries : List ℕ) (root : ℕ) (word room : List ℕ) (short : length word ≤ word_limit) (large : room_size ≤ length room) where
+  pub levels_room_lem : raise_all (length word) (settings cells entries root 0 (row_of word)) (written room_size (sheet room_size (λ i. 0)) room) ≡ written room_size (level_sheet cells entries root word) room
+  unfolding level_sheet
+  levels_room_lem =
+      written_is room_size (level_at cells entries root word) room (raise_all (length word) sets clean) large
+      (raises_length (length word) sets clean ∙ written_length room_size (λ i. 0) room large) low high
+    where
+      sets : List Setting
+      sets = settings cells entries root 0 (row_of word)
+
+      clean : List ℕ
+      clean = written room_size (sheet room_size (λ i. 0)) room
+
+      fits : (i : ℕ) → i < length room → i < length clean
+      fits i k = omega (arith, k, written_length room_size (λ i. 0) room large)
+
+      low : (i : ℕ) → i < room_size → get_or (raise_all (length word) sets clean) i 0 ≡ level_at cells entries root word i
+      low i k = unfold level_at in (raised_at (length word) sets clean i (fits i (omega arith)) ∙ omega (arith, written_low room_size (λ i. 0) room i k))
+
+      outside : (i : ℕ) → room_size ≤ i → inner (length word) i ≡ false
+      outside i k = unfold inner in rw (le-ltb i (length word) (omega arith)) (none (leb 1 i))
+        where
+          none : (z : Bool) → (z && false) ≡ false
+          none true = refl
+          none false = refl
+
+      high : (i : ℕ) → room_size ≤ i → i < length room → get_or (raise_all (length word) sets clean) i 0 ≡ get_or room i 0
+      high i k l = raised_at (length word) sets clean i (fits i l) ∙ rw (outside i k) (omega (arith, written_high room_size (λ i. 0) room i k))
+
+-- the levels raised in an array of zeros, and then put into a room of any size as they are, or as breaks
+module _ (cells entries : List ℕ) (root : ℕ) (word : List ℕ) (short : length word ≤ word_limit) {count : ℕ} {levels : List ℕ}
+    (w : Walked cells entries root (length word) (row_of word) (replicate room_size 0) count levels) where
+  levels_size : length levels ≡ room_size
+  levels_size = ap length w.raised ∙ raises_length _ _ _ ∙ length-replicate {A = ℕ} room_size 0
+
+  pub levels_put : (room : List ℕ) {after : List ℕ} → after ≡ paste room 0 levels room_size → DoneIn (level_sheet cells entries root word) (word_looks cells root word) room count after
+  unfolding level_sheet word_looks
+  levels_put room e =
+      record {
+        counted = w.counted;
+        memory = e ∙ copied_sheet room_size levels room (omega (arith, levels_size)) ∙ ap (λ (l : List ℕ). written room_size l room) (sheet_same room_size _ _ (raised_byte cells entries root word w));
+      }
+
+  pub breaks_put : (left right : ℕ) (room : List ℕ) {after : List ℕ} → after ≡ written room_size (sheet room_size (λ i. bit (level_break left right (length word) (λ k. get_or levels k 0) i))) room
+      → DoneIn (odd_sheet left right cells entries root word) (word_looks cells root word) room count after
+  breaks_put left right room e =
+      let d = breaks_done cells entries root word w left right refl in
+      record { counted = d.counted; memory = e ∙ ap (λ (l : List ℕ). written room_size l room) d.memory }
 
 -- a sheet written into a room of just its bytes is all of it
 whole : (f : ℕ → ℕ) → written room_size (sheet room_size f) (replicate room_size 0) ≡ sheet room_size f
@@ -212,11 +270,6 @@ module _ (left right root : ℕ) (word customer house cells entries : List ℕ) 
       → Done (break_sheet left right customer house cells entries root word) (break_looks customer house cells root word) count after
   unfolding odd_sheet
   by_levels q d = record { counted = d.counted ∙ sym (looks_by q); memory = d.memory ∙ sym (breaks_by q) }
-
--- the levels' way over a table's parts
-pub over_parts : (left right : ℕ) (word : List ℕ) {looks root r : ℕ} {cells entries c e after : List ℕ} → (cells ≡ c) × (entries ≡ e) × (root ≡ r)
-    → Done (odd_sheet left right cells entries root word) (word_looks cells root word) looks after → Done (odd_sheet left right c e r word) (word_looks c r word) looks after
-over_parts left right word p d = rw (← p.0, ← p.1, ← p.2) d
 
 -- the ways to the breaks meet: what they leave is one room and one count
 pub done_as : {bytes : List ℕ} {looks : ℕ} {room after : List ℕ} {count n : ℕ} → room ≡ after → count ≡ n → Done bytes looks n after → Done bytes looks count room

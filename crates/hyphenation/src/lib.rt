@@ -6,7 +6,6 @@ ghost use Rattle.base.specs.Limits.{room_size, word_limit};
 ghost use Rattle.base.specs.Grounds.{Finds, says, first_of};
 ghost use Rattle.words.specs.Words.{judge_word};
 ghost use Rattle.liang.specs.Breaks.{bad_margin, in_margins, level_break};
-ghost use Rattle.table.specs.Table.{cells_of, entries_of, root_base};
 ghost use Rattle.rooms.specs.Rooms.{sheet, bit};
 ghost use Rattle.hyphenation.specs.Breaks.{mark_hyphens};
 ghost use Rattle.hyphenation.specs.Post.{line_sheet, Inside};
@@ -166,17 +165,22 @@ fn put_line_breaks(margins: Margins, line: &[u8], room: &mut [u8; base::ROOM_SIZ
     mark_line(margins, line, room);
 }
 
-// The breaks of a judged word.
+// The breaks of a judged word. What they are read from comes beside the setting: nothing here speaks of a table's head.
 #[tactic(auto, using(words::proofs::Laws::word_fits, crate::proofs::Rooms::raised_inside, lookup::proofs::Laws::customer_within, lookup::proofs::Laws::house_within))]
-fn find_breaks(setting: &Setting, word: &Word, room: &mut [u8; base::ROOM_SIZE]) -> Found
-    ensures { BreaksFound setting.now.left setting.now.right word.now.bytes.now setting.now.customer.now setting.now.house.now (cells_of setting.now.table.now) (entries_of setting.now.table.now) root_base result room.new }
+fn find_breaks(
+    setting: &Setting,
+    trie: &Trie,
+    word: &Word,
+    room: &mut [u8; base::ROOM_SIZE],
+) -> Found
+    ensures { BreaksFound setting.now.left setting.now.right word.now.bytes.now setting.now.customer.now setting.now.house.now trie.now.cells.now trie.now.entries.now trie.now.root result room.new }
 {
     let Setting {
         left,
         right,
         customer,
         house,
-        table,
+        ..
     } = *setting;
     let margins = Margins {
         left,
@@ -194,7 +198,7 @@ fn find_breaks(setting: &Setting, word: &Word, room: &mut [u8; base::ROOM_SIZE])
         }
         Located::Nowhere => {
             let mut levels = [0u8; base::ROOM_SIZE];
-            let looks = walk::walk_word(&table::trie_of(table), word, &mut levels);
+            let looks = walk::walk_word(trie, word, &mut levels);
             put_breaks(margins, &levels, room);
             looks
         }
@@ -225,7 +229,8 @@ pub fn hyphenate(setting: &Setting, word: &[u8], room: &mut [u8]) -> Result<Foun
     let Some(room) = room.first_chunk_mut() else {
         return Err(Ground::RoomShort); // judged above
     };
-    Ok(find_breaks(setting, &Word { bytes: word }, room)) // the judged word
+    let trie = table::trie_of(setting.table);
+    Ok(find_breaks(setting, &trie, &Word { bytes: word }, room)) // the judged word
 }
 
 // The hyphenating call for a word, where margins, lists and table were judged before: whoever has many words judges these once.
@@ -237,5 +242,6 @@ pub fn hyphenate_word(setting: &Setting, word: &[u8], room: &mut [u8]) -> Result
     let Some(room) = room.first_chunk_mut() else {
         return Err(Ground::RoomShort); // judged above
     };
-    Ok(find_breaks(setting, &Word { bytes: word }, room))
+    let trie = table::trie_of(setting.table);
+    Ok(find_breaks(setting, &trie, &Word { bytes: word }, room))
 }

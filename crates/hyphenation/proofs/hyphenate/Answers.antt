@@ -14,4 +14,4 @@ pub returns-in_default : goal.returns-in_default
 returns-in_default c = absurd (omega (arith, c.in_default.ensures.cases, (breaks_sizes _ _ _ _ _ _ _ (judged_by (hyphenate_ordered _ _ _ _ _ _ _) c.judge_hyphenate.ensures) c.in_ok-judge_hyphenate.was).1))
 
 pub returns : goal.returns
-returns c = promised (hyphenate_ordered _ _ _ _ _ _ _) (breaks_found _ _ _ _ _ _ _ (judged_by (hyphenate_ordered _ _ _ _ _ _ _) c.judge_hyphenate.ensures) c.in_ok-judge_hyphenate.was c.find_breaks.ensures)
+returns c = promised (hyphenate_ordered _ _ _ _ _ _ _) (breaks_found _ _ _ _ _ _ _ (judged_by (hyphenate_ordered _ _ _ _ _ _ _) c.judge_hyphenate.ensures) c.in_ok-judge_hyphenate.was c.trie_of-trie.ensures c.find_breaks.ensures)

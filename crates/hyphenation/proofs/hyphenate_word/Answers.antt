@@ -14,4 +14,4 @@ pub returns-in_default : goal.returns-in_default
 returns-in_default c = absurd (omega (arith, c.in_default.ensures.cases, (word_alone_sizes _ _ (judged_by (word_alone_ordered _ _) c.judge_word_alone.ensures) c.in_ok-judge_word_alone.was).1))
 
 pub returns : goal.returns
-returns c = promised (word_alone_ordered _ _) (breaks_found _ _ _ _ _ _ _ (judged_by (word_alone_ordered _ _) c.judge_word_alone.ensures) c.in_ok-judge_word_alone.was c.find_breaks.ensures)
+returns c = promised (word_alone_ordered _ _) (breaks_found _ _ _ _ _ _ _ (judged_by (word_alone_ordered _ _) c.judge_word_alone.ensures) c.in_ok-judge_word_alone.was c.trie_of-trie.ensures c.find_breaks.ensures)
