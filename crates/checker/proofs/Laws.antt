@@ -9,7 +9,8 @@ use native.Mathlib.Numerals.{add-one}
 use native.Mathlib.Omega.{arith}
 use borrow.Author.Tests.{lt-leb, le-leb, lt-ltb, le-ltb, eq-eqb, ne_eqb, ltb-true, leb-true}
 use lib.Dec.{leb, ltb, eqb}
-use lib.ListN.{length, get_or, drop, replicate, get_or-replicate, drop_of_length-le}
+use lib.ListN.{length, get_or, take, drop, replicate, get_or-replicate, drop_of_length-le}
+use lib.Seq.{take-nil}
 use denote.Param.Members.{Mut}
 use denote.Ref.{Bor}
 use Rattle.std.specs.Fn.{CalledAt, ComputesKey}
@@ -22,7 +23,8 @@ use Rattle.base.specs.declared.Ground.TheVariants.{NotRight}
 use Rattle.base.proofs.Lists.{cons_at, both}
 use Rattle.words.specs.Symbols.{line_feed, small, digit, symbol_of, symbols_of}
 use Rattle.words.specs.Words.{inner}
-use Rattle.lines.specs.Lines.{cut, any_of, line_letter, pattern_form, pattern_bytes, good_pattern}
+use Rattle.lines.specs.Lines.{cut, line_length, any_of, line_letter, pattern_form, pattern_bytes, good_pattern}
+use Rattle.lines.proofs.Laws.{cut_line}
 use Rattle.lines.proofs.Splits.{cut_split}
 use Rattle.lists.specs.Lists.{good_line, first_bad, judge_lines}
 use Rattle.lists.specs.declared.Form.TheVariants.{Patterns}
@@ -365,6 +367,15 @@ ahead_parts next rest empty {own = own} {line = line} {kept = kept} {symbol = sy
     go : (next : Option (Bor (List ℕ))) → line ≡ unwrap_or next empty → symbols_of line.now ≡ first_symbols (map pattern_of (ahead next rest))
     go None p = rw (p, e)
     go (Some x) p = rw p
+
+-- the first of the patterns from a place on
+pub first_symbols_lem : (w : List ℕ) (i e : ℕ) → e ≡ i + line_length (drop i w) → first_symbols (map pattern_of (cut (drop i w))) ≡ symbols_of (take (e - i) (drop i w))
+unfolding pattern_of cut symbols_of
+first_symbols_lem w i e q = go (dec_lt i (length w))
+  where
+    go : Dec (i < length w) → first_symbols (map pattern_of (cut (drop i w))) ≡ symbols_of (take (e - i) (drop i w))
+    go (yes k) = rw (cut_line w i e k q)
+    go (no k) = let h : length w ≤ i = omega arith in rw (drop_of_length-le w h, take-nil {A = ℕ} (e - i))
 
 -- What holds between two lines of a good text: what the line at hand shares with the one above it, and what is left to test.
 pub record Lined (cells entries : List ℕ) (root : ℕ) (w : List ℕ) (known low : ℕ) (lines : List (List ℕ)) : Type 0 where

@@ -4,6 +4,7 @@ use mathlib.Core.Bool.{true, false}
 use mathlib.Core.List.{List}
 use mathlib.Core.Path.{◌≡◌, refl, ◌∙◌, ap}
 use native.Mathlib.Omega.{arith}
+use borrow.Author.Tests.{le-ltb}
 use lib.ListN.{length, take, drop, drop_of_length-le}
 use Rattle.base.specs.Limits.{pattern_text, exception_text, customer_list, house_list}
 use Rattle.base.specs.Grounds.{Check}
@@ -65,6 +66,10 @@ module _ (form : Form) (w : List ℕ) (at : ℕ) {r : Option ℕ} (p : r ≡ end
       line_good b =
           let s : at + length (take (e - at) (drop at w)) ≡ e = omega (arith, line_size w at e h (found_end q), line_starts w at e h (found_end q)) in
           rw (cut_line w at e h (found_end q), found_good q, b, s)
+
+pub size_in_lem : (limit : ℕ) (w : List ℕ) → length w ≤ limit → Ok tt ≡ judge_size limit w
+unfolding judge_size
+size_in_lem limit w h = rw (le-ltb limit (length w) h)
 
 -- the judgements in order
 pub patterns_size : (w : List ℕ) {s : Check} {g : Ground} → s ≡ judge_size pattern_text w → s ≡ Err g → Err g ≡ judge_patterns w

@@ -113,6 +113,14 @@ unfolding put_link
 some_link root [] base bytes h = absurd (omega (arith, h))
 some_link root (s ∷ u) base bytes h = refl
 
+module _ (root : ℕ) (own : List ℕ) (m base : ℕ) (bytes : List ℕ) where
+  module _ (h : m ≡ 0 → ⊥) (l : m ≤ length own) {n : ℕ} (p : n ≡ cell_of bytes root (take m own)) where
+    link_is : put_link root (take m own) base bytes ≡ put_number (cell_size * n + 2) base bytes
+    link_is = some_link root (take m own) base bytes (omega (arith, length-take-le m own l, h)) ∙ rw p
+
+    pub link_in_lem : {after : List ℕ} → after ≡ put_number (cell_size * n + 2) base bytes → after ≡ put_link root (take m own) base bytes
+    link_in_lem e = e ∙ sym link_is
+
 -- two tests that agree on the symbols place alike
 smallest_same : (f g : ℕ → Bool) → ((i : ℕ) → f i ≡ g i) → (k n : ℕ) → smallest f k n ≡ smallest g k n
 unfolding smallest
