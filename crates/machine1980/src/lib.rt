@@ -77,7 +77,10 @@ fn is_shown(finale: usize, sheet: &[u8], k: usize) -> bool
     ensures { result ≡ shows finale sheet.now k }
 {
     let at = sheet1980::U + k;
-    sheet1980::code_at(sheet, at) == 0 && (at + 2 < finale || finale < at)
+    if sheet1980::code_at(sheet, at) != 0 {
+        return false; // no hyphen stands there: most letters end here
+    }
+    at + 2 < finale || finale < at
 }
 
 // The hyphens that show, put into a room as breaks.

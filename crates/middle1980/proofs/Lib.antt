@@ -1,3 +1,4 @@
 pub mod Ends
 pub mod Aspirates
 pub mod Going
+pub mod Laws

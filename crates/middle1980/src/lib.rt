@@ -54,8 +54,11 @@ const WEAK_ROWS: u8 = 26;
 fn join_h(c: u8, next: u8) -> Option<u8>
     ensures { result ≡ cond (eqb next (o "h") && joins_h c) (Some (with_h c)) None }
 {
+    if next != LETTER_H {
+        return None; // so for most letters, and the table isn't read
+    }
     let h = (pair_word(c) % 8) as u8;
-    if next != LETTER_H || h == 0 {
+    if h == 0 {
         return None;
     }
     Some(c + h - 2)

@@ -5,6 +5,7 @@ use mathlib.Core.List.{List, [], ◌∷◌}
 use mathlib.Core.Logic.{◌⊎◌}
 use mathlib.Core.Path.{◌≡◌, refl, ◌∙◌}
 use native.Mathlib.Omega.{arith}
+use borrow.Author.Tests.{lt-ltb}
 use lib.Dec.{eqb}
 use Rattle.std.proofs.lemmas.List.{get_or-set_other, get_or_past}
 use lib.ListN.{length, get_or, set, length-set}
@@ -42,6 +43,11 @@ clear_length sheet j = grind (arith, length-set)
 pub clear_sheet : {n : ℕ} {sheet : List ℕ} (j : ℕ) → Sheet n sheet → Sheet n (clear sheet j)
 clear_sheet {n} {sheet} j s =
     record { size = clear_length sheet j ∙ s.size; codes = λ k. grind (arith, clear_either sheet j k, s.codes k); past = λ k h. grind (arith, clear_either sheet j k, s.past k) }
+
+-- "reading outside gives 0"
+pub outside_below : (sheet : List ℕ) (k : ℕ) → k < u → mem sheet k ≡ 0
+unfolding mem
+outside_below sheet k h = rw (lt-ltb k u h)
 
 -- A letter stands on the sheet: nothing is read below it or past it.
 pub on_sheet : (sheet : List ℕ) (k : ℕ) → 0 < mem sheet k → (u ≤ k) × (k < u + length sheet)
