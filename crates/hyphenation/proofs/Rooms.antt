@@ -112,7 +112,7 @@ module _ (cells entries : List ℕ) (root : ℕ) (word room : List ℕ) (short :
 -- the levels raised in an array of zeros, and then put into a room of any size as they are, or as breaks
 module _ (cells entries : List ℕ) (root : ℕ) (word : List ℕ) (short : length word ≤ word_limit) {count : ℕ} {levels : List ℕ}
     (w : Walked cells entries root (length word) (row_of word) (replicate room_size 0) count levels) where
-  levels_size : length levels ≡ room_size
+  pub levels_size : length levels ≡ room_size
   levels_size = ap length w.raised ∙ raises_length _ _ _ ∙ length-replicate {A = ℕ} room_size 0
 
   pub levels_put : (room : List ℕ) {after : List ℕ} → after ≡ paste room 0 levels room_size → DoneIn (level_sheet cells entries root word) (word_looks cells root word) room count after

@@ -49,7 +49,8 @@ impl<'a> Writer<'a> {
         self.at += 1;
     }
 
-    // Bytes as they stand. One by one: the library's `copy_from_slice` makes the archive for C need `memmove`, which it has never asked for.
+    // Bytes as they stand. One by one: the library's `copy_from_slice` makes the archive for C need `memmove`, and it is to need `memcpy` and
+    // `memset` alone.
     pub fn put_text(&mut self, text: &[u8])
         requires { Fits text.now self.old }
         ensures { Writes text.now self.old self.new }
