@@ -33,7 +33,7 @@
  *
  * Stack. Pack takes at most TTEOLMIGU_PACK_STACK bytes, piece and end at most TTEOLMIGU_PIECE_STACK, 1980 at most TTEOLMIGU_1980_STACK
  * and every other call at most TTEOLMIGU_STACK, whatever texts and tables hold; as compiled today these are 18,648 bytes for pack, 1,266
- * for piece, 1,138 for end, 280 for 1980, 786 for hyphenate, 354 for levels, 360 for check, 240 for lookup and at most 64 for fit. No
+ * for piece, 1,138 for end, 280 for 1980, 770 for hyphenate, 354 for levels, 360 for check, 240 for lookup and at most 64 for fit. No
  * function calls itself, so that a chain of 2,048 entries takes no more than a single entry, and a long piece no more than a short one.
  * This isn't proved; tests/stack holds the archive to it, with the longest chains and the fullest lists. Where a program's symbols are
  * bound lazily, the loader takes stack of its own besides, once, at the first memset or memcpy.
